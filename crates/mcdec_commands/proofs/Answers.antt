@@ -6,7 +6,7 @@ use Rattle.std.specs.Ordering.{nat_cmp}
 use Rattle.std.specs.FinMap.{FinMap, get}
 use Rattle.std.proofs.lemmas.List.{length-map, length-take}
 use Rattle.rv_words.specs.declared.memory.NoMemory.{NoMemory}
-use Rattle.mc_shelf.specs.Shelf.{Contents, TellsName}
+use Rattle.mc_shelf.specs.Shelf.{Contents}
 use Rattle.rv_words.specs.declared.range.Range.{Range}
 use Rattle.tailrec_lang.specs.declared.group.Group.{Group}
 use Rattle.tailrec_lang.specs.Tree.{GroupTree, group_tree, def_tree, listed_def}
@@ -22,13 +22,12 @@ use Rattle.proof_v2.specs.AnyText.{AnyProof, any_lines}
 use Rattle.proof_v2.specs.Titles.{named_version}
 use Rattle.mcdec_answers.specs.declared.answer.EvalAnswer.{EvalAnswer}
 use Rattle.mcdec_answers.specs.declared.answer.EvalAnswer.TheVariants as answer
-use Rattle.mcdec_words.specs.Command.{Eval, Run, Arg, Given, Words, value_of, givens, ranges}
+use Rattle.mcdec_words.specs.Command.{Arg, Given, value_of, givens, ranges}
 use Rattle.mcdec_words.specs.declared.command.Memory.TheVariants.{First, Second}
 use Rattle.mcdec_words.specs.CommandReading.{Holds, HoldsArgs, value_in}
 use Rattle.mcdec_commands.specs.Memory.{placed, ranges_in}
 use Rattle.mcdec_commands.specs.EvalAnswer.{proof_limit, arguments_given, memories_given, EvalGives}
 use Rattle.mcdec_commands.specs.inner.Search.{Finds, GroupGives, HasText, first_named}
-use Rattle.mcdec_commands.specs.Answer.{ReadsAreTold}
 use Rattle.mcdec_commands.specs.Held.{HoldsWith}
 
 -- ---- arguments
@@ -143,11 +142,3 @@ held-such (Some files) name P h = at (files name) refl h
 -- a command that reads a file
 pub one-file : (name : List ℕ) → name ∷ [] ≢ []
 one-file name e = cc
-
--- the file that `eval` reads
-pub proof-told : (told : Option Contents) (ws : List (List ℕ)) → ReadsAreTold told ws → (proof name : List ℕ) (turns : ℕ) (args : List Arg) → Words ws (Eval proof name turns args) → TellsName told proof
-proof-told told ws h proof name turns args w = h (Eval proof name turns args) w 0 [] (omega arith)
-
--- the file that `run` reads
-pub elf-told : (told : Option Contents) (ws : List (List ℕ)) → ReadsAreTold told ws → (elf start : List ℕ) (until steps : ℕ) (args : List Arg) → Words ws (Run elf start until steps args) → TellsName told elf
-elf-told told ws h elf start until steps args w = h (Run elf start until steps args) w 0 [] (omega arith)

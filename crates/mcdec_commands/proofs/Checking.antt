@@ -1,7 +1,7 @@
 -- What is answered to the command `check`.
 use Rattle.std.proofs.Common.{◌≡◌, ◌≢◌, ℕ, ◌<◌, ◌≤◌, true, List, [], ◌∷◌, length, take, take_all, Option, Some, None, refl, subst, arith}
 use Rattle.std.specs.Prelude.{IfSome, IsSomeAnd}
-use Rattle.mc_shelf.specs.Shelf.{Contents, TellsName}
+use Rattle.mc_shelf.specs.Shelf.{Contents}
 use Rattle.elf_image.specs.Fault.{fault_of}
 use Rattle.proof_text.specs.inner.PulledRows.{WhereHeld}
 use Rattle.proof_text.proofs.PullLemmas.{told_so}
@@ -21,20 +21,13 @@ use Rattle.mcdec_commands.specs.EvalAnswer.{proof_limit}
 use Rattle.mcdec_commands.specs.Held.{HoldsWith}
 use Rattle.mcdec_commands.specs.RunAnswer.{IsLoaded, elf_limit}
 use Rattle.mcdec_commands.specs.CheckAnswer.{CheckGives, HoldsText}
-use Rattle.mcdec_commands.specs.Answer.{Gives, ReadsAreTold}
+use Rattle.mcdec_commands.specs.Answer.{Gives}
 use Rattle.mcdec_commands.specs.inner.Checking.{ImageGives, answer_of, answer_to}
 use Rattle.mcdec_commands.proofs.Answers.{held-such, held-with}
 
 -- a command that reads two files
 pub two-files : (elf proof : List ℕ) → elf ∷ proof ∷ [] ≢ []
 two-files elf proof e = cc
-
--- the files that `check` reads
-pub file-told : (told : Option Contents) (ws : List (List ℕ)) → ReadsAreTold told ws → (elf proof : List ℕ) → Words ws (Check elf proof) → TellsName told elf
-file-told told ws h elf proof w = h (Check elf proof) w 0 [] (omega arith)
-
-pub text-told : (told : Option Contents) (ws : List (List ℕ)) → ReadsAreTold told ws → (elf proof : List ℕ) → Words ws (Check elf proof) → TellsName told proof
-text-told told ws h elf proof w = h (Check elf proof) w 1 [] (omega arith)
 
 -- The proof file was measured, and of so many of its bytes something is said.
 module _ (proof file : List ℕ) (size : ℕ) (loaded : IsLoaded file) (short : size ≤ proof_limit) where

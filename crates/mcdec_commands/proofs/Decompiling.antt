@@ -1,7 +1,7 @@
 -- What is answered to the commands `decompile`, `link` and `split`, and what its output file holds then.
 use Rattle.std.proofs.Common.{◌≡◌, ℕ, zero, suc, ◌<◌, ◌≤◌, min, get_or, List, [], ◌∷◌, ◌++◌, length, take, Option, Some, None, refl, sym, ap, subst, ◌∙◌, inl, inr, arith}
 use Rattle.std.specs.Prelude.{IfSome}
-use Rattle.mc_shelf.specs.Shelf.{Contents, TellsName}
+use Rattle.mc_shelf.specs.Shelf.{Contents}
 use Rattle.tailrec_lang.specs.Tree.{group_tree}
 use Rattle.group_text.specs.Version.{Version}
 use Rattle.proof_text.specs.Proofs.{AreProofsIn, text_of_proofs_in}
@@ -24,7 +24,7 @@ use Rattle.mcdec_answers.specs.declared.answer.Listed.{Listed}
 use Rattle.mcdec_words.specs.Command.{Command, Decompile, Words, output_of}
 use Rattle.mcdec_commands.specs.RunAnswer.{IsLoaded}
 use Rattle.mcdec_commands.specs.DecompileAnswer.{AreItemsIn, DecompileGives, IsTextFor, all_listed, listed_of, version_in}
-use Rattle.mcdec_commands.specs.Answer.{Gives, ReadsAreTold}
+use Rattle.mcdec_commands.specs.Answer.{Gives}
 use Rattle.mcdec_answers.specs.Printed.{status}
 use Rattle.mcdec_commands.specs.inner.Decompiling.{FileGives}
 use Rattle.mcdec_commands.specs.inner.Writing.{ToldOrFault}
@@ -33,9 +33,6 @@ use Rattle.mcdec_commands.proofs.Leaving.{has-output}
 use Rattle.mcdec_words.proofs.OneCommand.{words-unique}
 
 -- ---- the file that it reads
-
-pub decompile-told : (told : Option Contents) (ws : List (List ℕ)) → ReadsAreTold told ws → (form : Form) (elf out : List ℕ) (names : List (List ℕ)) → Words ws (Decompile form elf out names) → TellsName told elf
-decompile-told told ws h form elf out names w = h (Decompile form elf out names) w 0 [] (omega arith)
 
 -- what is answered of the file's bytes is what the command comes to
 pub file-gives : (told : Option Contents) (ws : List (List ℕ)) (form : Form) (elf out : List ℕ) (names : List (List ℕ)) (file : List ℕ) (rose wrote : Type 0) → Words ws (Decompile form elf out names) → IfSome told (λ files. files elf ≡ Some file)

@@ -2,7 +2,7 @@
 use Rattle.std.proofs.Common.{◌≡◌, ℕ, ◌<◌, ◌≤◌, List, [], length, map, Option, Some, refl, sym, ap, subst, inl, inr, arith}
 use Rattle.std.specs.Prelude.{IfSome}
 use Rattle.std.proofs.lemmas.List.{length-map}
-use Rattle.mc_shelf.specs.Shelf.{Contents, TellsName}
+use Rattle.mc_shelf.specs.Shelf.{Contents}
 use Rattle.tailrec_lang.specs.declared.group.Group.{Group}
 use Rattle.tailrec_lang.specs.Tree.{GroupTree, def_tree, group_tree, listed_def}
 use Rattle.tailrec_lang.specs.WellFormed.{IsWellFormed}
@@ -21,16 +21,13 @@ use Rattle.mcdec_answers.specs.Printed.{status}
 use Rattle.mcdec_words.specs.Command.{Smt, Words}
 use Rattle.mcdec_commands.specs.EvalAnswer.{IsNamed, proof_limit}
 use Rattle.mcdec_commands.specs.SmtAnswer.{IsScriptFor, SmtGives}
-use Rattle.mcdec_commands.specs.Answer.{Gives, ReadsAreTold}
+use Rattle.mcdec_commands.specs.Answer.{Gives}
 use Rattle.mcdec_commands.specs.inner.Exporting.{DefGives}
 use Rattle.mcdec_commands.specs.inner.Writing.{ToldOrFault}
 use Rattle.mcdec_commands.proofs.Answers.{held-with}
 use Rattle.mcdec_commands.proofs.Leaving.{has-output}
 
 -- ---- the file that it reads
-
-pub smt-told : (told : Option Contents) (ws : List (List ℕ)) → ReadsAreTold told ws → (proof name : List ℕ) (def : ℕ) (out : List ℕ) → Words ws (Smt proof name def out) → TellsName told proof
-smt-told told ws h proof name def out w = h (Smt proof name def out) w 0 [] (omega arith)
 
 -- what is answered of the file's text is what the command comes to
 pub def-gives : (told : Option Contents) (ws : List (List ℕ)) (proof name : List ℕ) (def : ℕ) (out file : List ℕ) (rose wrote : Type 0) → Words ws (Smt proof name def out) → IfSome told (λ files. files proof ≡ Some file)

@@ -3,7 +3,7 @@ use Rattle.std.proofs.Common.{◌≡◌, ℕ, cond, ◌+◌, ◌<◌, ◌≤◌,
 use Rattle.std.specs.Prelude.{IfSome}
 use Rattle.std.proofs.lemmas.Bool.{ne_eqb}
 use Rattle.std.proofs.lemmas.List.{take_all, take_more}
-use Rattle.mc_shelf.specs.Shelf.{Contents, TellsName}
+use Rattle.mc_shelf.specs.Shelf.{Contents}
 use Rattle.mc_text.specs.Fault.{IsBadAt, newlines}
 use Rattle.mc_text.proofs.FaultLine.{newlines-append}
 use Rattle.tailrec_lang.specs.declared.group.Group.{Group}
@@ -23,19 +23,13 @@ use Rattle.mcdec_words.specs.Command.{Laws, Words}
 use Rattle.mcdec_commands.specs.declared.search.Refusal.TheVariants as refusal
 use Rattle.mcdec_commands.specs.EvalAnswer.{IsNamed, proof_limit}
 use Rattle.mcdec_commands.specs.LawsAnswer.{IsCertText, LawsGives, TextsGive, cert_limit, step_line}
-use Rattle.mcdec_commands.specs.Answer.{Gives, ReadsAreTold}
+use Rattle.mcdec_commands.specs.Answer.{Gives}
 use Rattle.mcdec_commands.specs.inner.Judging.{CertGives}
 use Rattle.mcdec_commands.specs.inner.Search.{Finds}
 use Rattle.mcdec_commands.proofs.Answers.{held-with}
 use Rattle.mcdec_commands.proofs.Checking.{two-files}
 
 -- ---- the files that it reads
-
-pub laws-proof-told : (told : Option Contents) (ws : List (List ℕ)) → ReadsAreTold told ws → (proof cert : List ℕ) → Words ws (Laws proof cert) → TellsName told proof
-laws-proof-told told ws h proof cert w = h (Laws proof cert) w 0 [] (omega arith)
-
-pub laws-cert-told : (told : Option Contents) (ws : List (List ℕ)) → ReadsAreTold told ws → (proof cert : List ℕ) → Words ws (Laws proof cert) → TellsName told cert
-laws-cert-told told ws h proof cert w = h (Laws proof cert) w 1 [] (omega arith)
 
 -- ---- what is found of the certificate's name
 

@@ -1,7 +1,7 @@
 -- What is answered to the command `migrate`, and what its output file holds then.
-use Rattle.std.proofs.Common.{◌≡◌, ℕ, ◌≤◌, List, [], length, Option, Some, None, refl, sym, subst, inl, inr, arith}
+use Rattle.std.proofs.Common.{◌≡◌, ℕ, ◌≤◌, List, length, Option, Some, None, refl, sym, subst, inl, inr}
 use Rattle.std.specs.Prelude.{IfSome}
-use Rattle.mc_shelf.specs.Shelf.{Contents, TellsName}
+use Rattle.mc_shelf.specs.Shelf.{Contents}
 use Rattle.checker.specs.declared.verdict.Verdict.{Verdict}
 use Rattle.checker.specs.declared.verdict.Verdict.TheVariants as verdict
 use Rattle.checker.specs.Verdicts.{IsAcceptance, Says}
@@ -14,7 +14,7 @@ use Rattle.mcdec_words.specs.Command.{Migrate, Words}
 use Rattle.mcdec_commands.specs.EvalAnswer.{proof_limit}
 use Rattle.mcdec_commands.specs.RunAnswer.{IsLoaded}
 use Rattle.mcdec_commands.specs.MigrateAnswer.{IsMigrationFor, MigrateGives}
-use Rattle.mcdec_commands.specs.Answer.{Gives, ReadsAreTold}
+use Rattle.mcdec_commands.specs.Answer.{Gives}
 use Rattle.mcdec_commands.specs.inner.Migrating.{FileMigrates, refusal_of}
 use Rattle.mcdec_commands.specs.inner.Writing.{ToldOrFault}
 use Rattle.mcdec_commands.proofs.Answers.{held-with}
@@ -22,12 +22,6 @@ use Rattle.mcdec_commands.proofs.Checking.{two-files}
 use Rattle.mcdec_commands.proofs.Leaving.{has-output}
 
 -- ---- the files that it reads
-
-pub migrate-elf-told : (told : Option Contents) (ws : List (List ℕ)) → ReadsAreTold told ws → (elf proof out : List ℕ) → Words ws (Migrate elf proof out) → TellsName told elf
-migrate-elf-told told ws h elf proof out w = h (Migrate elf proof out) w 0 [] (omega arith)
-
-pub migrate-proof-told : (told : Option Contents) (ws : List (List ℕ)) → ReadsAreTold told ws → (elf proof out : List ℕ) → Words ws (Migrate elf proof out) → TellsName told proof
-migrate-proof-told told ws h elf proof out w = h (Migrate elf proof out) w 1 [] (omega arith)
 
 -- what is answered of the proof file is what the command comes to
 pub migration-gives : (told : Option Contents) (ws : List (List ℕ)) (elf proof out file : List ℕ) (rose wrote later : Type 0) → Words ws (Migrate elf proof out) → IfSome told (λ files. files elf ≡ Some file) → (later → rose)

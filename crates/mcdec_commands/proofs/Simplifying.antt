@@ -1,7 +1,7 @@
 -- What is answered to the command `simplify`, and what its output file holds then.
-use Rattle.std.proofs.Common.{◌≡◌, ℕ, ◌≤◌, List, [], length, map, Option, Some, refl, sym, ap, subst, inl, inr, arith}
+use Rattle.std.proofs.Common.{◌≡◌, ℕ, ◌≤◌, List, length, map, Option, Some, refl, sym, ap, subst, inl, inr}
 use Rattle.std.specs.Prelude.{IfSome}
-use Rattle.mc_shelf.specs.Shelf.{Contents, TellsName}
+use Rattle.mc_shelf.specs.Shelf.{Contents}
 use Rattle.tailrec_lang.specs.Tree.{GroupTree, def_tree}
 use Rattle.def_laws.specs.declared.cert.Cert.{Cert}
 use Rattle.def_laws.specs.Certs.{IsCertOf}
@@ -16,16 +16,13 @@ use Rattle.mcdec_answers.specs.Printed.{status}
 use Rattle.mcdec_words.specs.Command.{Simplify, Words}
 use Rattle.mcdec_commands.specs.EvalAnswer.{IsNamed, proof_limit}
 use Rattle.mcdec_commands.specs.SimplifyAnswer.{IsCertFor, Simplifies, SimplifyGives}
-use Rattle.mcdec_commands.specs.Answer.{Gives, ReadsAreTold}
+use Rattle.mcdec_commands.specs.Answer.{Gives}
 use Rattle.mcdec_commands.specs.inner.Simplifying.{TextGives}
 use Rattle.mcdec_commands.specs.inner.Writing.{ToldOrFault}
 use Rattle.mcdec_commands.proofs.Answers.{held-with}
 use Rattle.mcdec_commands.proofs.Leaving.{has-output}
 
 -- ---- the file that it reads
-
-pub simplify-told : (told : Option Contents) (ws : List (List ℕ)) → ReadsAreTold told ws → (proof name out : List ℕ) → Words ws (Simplify proof name out) → TellsName told proof
-simplify-told told ws h proof name out w = h (Simplify proof name out) w 0 [] (omega arith)
 
 -- what is answered of the file's text is what the command comes to
 pub text-gives : (told : Option Contents) (ws : List (List ℕ)) (proof name out file : List ℕ) (rose wrote : Type 0) → Words ws (Simplify proof name out) → IfSome told (λ files. files proof ≡ Some file)

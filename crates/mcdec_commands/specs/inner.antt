@@ -1,4 +1,5 @@
 pub mod Loading
+pub mod Shelves
 pub mod Running
 pub mod Checking
 pub mod Search

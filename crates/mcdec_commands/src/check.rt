@@ -1,13 +1,15 @@
 //! The command `check`.
 
-ghost use Rattle.std.specs.Prelude.{◌≡◌, ℕ, ◌≤◌, List};
+ghost use Rattle.std.specs.Prelude.{◌≡◌, ℕ, List};
 ghost use Rattle.mc_shelf.specs.Fault.{Rose};
-ghost use Rattle.mcdec_commands.specs.Answer.{Gives, ReadsAreTold};
+ghost use Rattle.mc_shelf.specs.Shelf.{TellsName};
+ghost use Rattle.mcdec_commands.specs.Answer.{Gives};
 ghost use Rattle.elf_image.specs.Image.{image_of};
 ghost use Rattle.mcdec_words.specs.CommandReading.{IsReadCheck};
 ghost use Rattle.mcdec_commands.specs.inner.Checking.{ImageGives, answer_to};
 ghost use Rattle.mcdec_commands.specs.inner.Loading.{not_loaded};
 ghost use Rattle.mcdec_commands.specs.RunAnswer.{IsLoaded};
+ghost use Rattle.mcdec_commands.specs.inner.Shelves.{ReadsFiles};
 
 use crate::load::{LoadFault, PROOF_LIMIT, load_image, not_read};
 use checker::{Pulled, Verdict};
@@ -25,15 +27,9 @@ pub fn answer_check<S: Shelf>(alloc: Global, c: &Check<'_>, shelf: &mut S) -> An
         → Gives (S.contents shelf.old) ws (Rose (S.read_faults shelf.old) (S.read_faults shelf.new))
         (Rose (S.write_faults shelf.old) (S.write_faults shelf.new)) result }
 
-    ensures kept { S.contents shelf.new ≡ S.contents shelf.old }
-    ensures counted { (S.read_faults shelf.old ≤ S.read_faults shelf.new)
-        × (S.write_faults shelf.old ≤ S.write_faults shelf.new) }
-    ensures sure { (ws : List (List ℕ))
-        → IsReadCheck ws c.now
-        → S.IsSure shelf.old
-        → ReadsAreTold (S.contents shelf.old) ws
-        → (S.read_faults shelf.new ≡ S.read_faults shelf.old)
-        × (S.write_faults shelf.new ≡ S.write_faults shelf.old) }
+    ensures shelf { ReadsFiles S.contents S.read_faults S.write_faults S.IsSure
+        (λ told. TellsName told c.now.elf.now × TellsName told c.now.proof.now) shelf.old
+        shelf.new }
 {
     match load_image(alloc, shelf, c.elf) {
         Ok(image) => check_image(alloc, &image, c, shelf),
@@ -62,15 +58,8 @@ fn check_image<S: Shelf>(alloc: Global, image: &Image, c: &Check<'_>, shelf: &mu
         → ImageGives (S.contents shelf.old) c.now.proof.now file
         (Rose (S.read_faults shelf.old) (S.read_faults shelf.new)) result }
 
-    ensures kept { S.contents shelf.new ≡ S.contents shelf.old }
-    ensures counted { (S.read_faults shelf.old ≤ S.read_faults shelf.new)
-        × (S.write_faults shelf.old ≤ S.write_faults shelf.new) }
-    ensures sure { (ws : List (List ℕ))
-        → IsReadCheck ws c.now
-        → S.IsSure shelf.old
-        → ReadsAreTold (S.contents shelf.old) ws
-        → (S.read_faults shelf.new ≡ S.read_faults shelf.old)
-        × (S.write_faults shelf.new ≡ S.write_faults shelf.old) }
+    ensures shelf { ReadsFiles S.contents S.read_faults S.write_faults S.IsSure
+        (λ told. TellsName told c.now.proof.now) shelf.old shelf.new }
 {
     let size = match measure(shelf, c.proof, PROOF_LIMIT) {
         Ok(size) => size,

@@ -1,12 +1,13 @@
 //! The commands `decompile`, `link` and `split`.
 
-ghost use Rattle.std.specs.Prelude.{◌≡◌, ◌<◌, ◌≤◌, ℕ, All, IfErr, IfOk, IfSome, List as Items, Some, length};
+ghost use Rattle.std.specs.Prelude.{◌≡◌, ◌<◌, ℕ, All, IfErr, IfOk, IfSome, List as Items, Some, length};
 ghost use Rattle.elf_image.specs.Image.{image_of};
 ghost use Rattle.mc_shelf.specs.Fault.{Rose, WhereTold};
+ghost use Rattle.mc_shelf.specs.Shelf.{TellsName};
 ghost use Rattle.group_text.specs.Limits.{IsName};
 ghost use Rattle.proof_text.specs.Proofs.{AreProofsIn, text_of_proofs_in};
 ghost use Rattle.decompiler.specs.Listing.{proofs_of};
-ghost use Rattle.mcdec_commands.specs.Answer.{Gives, ReadsAreTold};
+ghost use Rattle.mcdec_commands.specs.Answer.{Gives};
 ghost use Rattle.mcdec_commands.specs.DecompileAnswer.{AreItemsIn, IsRefusedIn, IsTextFor, all_listed, listed_of, version_in};
 ghost use Rattle.mcdec_answers.specs.Printed.{status};
 ghost use Rattle.mcdec_commands.specs.RunAnswer.{IsLoaded};
@@ -14,6 +15,7 @@ ghost use Rattle.mcdec_words.specs.CommandReading.{IsReadDecompile};
 ghost use Rattle.mcdec_commands.specs.inner.Decompiling.{FileGives, HasDef, IsNoProofIn, link_fault};
 ghost use Rattle.mcdec_commands.specs.inner.Loading.{not_loaded};
 ghost use Rattle.mcdec_commands.specs.inner.Writing.{IsTold, WritesOut};
+ghost use Rattle.mcdec_commands.specs.inner.Shelves.{ReadsThenWrites, WritesFile};
 
 use crate::load::{LoadFault, load_image, not_read};
 use crate::output::write_answer;
@@ -38,15 +40,8 @@ pub fn answer_decompile<S: Shelf>(alloc: Global, d: &Decompile<'_>, shelf: &mut 
     ensures written { WhereTold (S.contents shelf.old) (S.contents shelf.new)
         (WritesOut (λ files. IsTextFor d.now.form files d.now.elf.now d.now.names) d.now.out.now
         result) }
-    ensures counted { (S.read_faults shelf.old ≤ S.read_faults shelf.new)
-        × (S.write_faults shelf.old ≤ S.write_faults shelf.new) }
-    ensures cause { status result ≡ 5 → Rose (S.write_faults shelf.old) (S.write_faults shelf.new) }
-    ensures sure { (ws : Items (Items ℕ))
-        → IsReadDecompile ws d.now
-        → S.IsSure shelf.old
-        → ReadsAreTold (S.contents shelf.old) ws
-        → (S.read_faults shelf.new ≡ S.read_faults shelf.old)
-        × (S.write_faults shelf.new ≡ S.write_faults shelf.old) }
+    ensures shelf { ReadsThenWrites S.contents S.read_faults S.write_faults S.IsSure
+        (status result ≡ 5) (λ told. TellsName told d.now.elf.now) shelf.old shelf.new }
 {
     match load_image(alloc, shelf, d.elf) {
         Ok(image) => decompile_image(alloc, &image, d, shelf),
@@ -89,12 +84,8 @@ fn decompile_image<S: Shelf>(
         → WhereTold (S.contents shelf.old) (S.contents shelf.new)
         (WritesOut (λ files. IsTextFor d.now.form files d.now.elf.now d.now.names) d.now.out.now
         result) }
-    ensures reads { S.read_faults shelf.new ≡ S.read_faults shelf.old }
-    ensures counted { S.write_faults shelf.old ≤ S.write_faults shelf.new }
-    ensures cause { status result ≡ 5 → Rose (S.write_faults shelf.old) (S.write_faults shelf.new) }
-    ensures sure { S.IsSure shelf.old
-        → IsTold (S.contents shelf.old)
-        → S.write_faults shelf.new ≡ S.write_faults shelf.old }
+    ensures shelf { WritesFile S.contents S.read_faults S.write_faults S.IsSure (status result ≡ 5)
+        IsTold shelf.old shelf.new }
 {
     match proof_of_names(alloc, image, d) {
         Ok(proof) => write_proof(alloc, &proof, d, shelf),
@@ -179,12 +170,8 @@ fn write_proof<S: Shelf>(alloc: Global, proof: &Proof, d: &Decompile<'_>, shelf:
         → WhereTold (S.contents shelf.old) (S.contents shelf.new)
         (WritesOut (λ files. IsTextFor d.now.form files d.now.elf.now d.now.names) d.now.out.now
         result) }
-    ensures reads { S.read_faults shelf.new ≡ S.read_faults shelf.old }
-    ensures counted { S.write_faults shelf.old ≤ S.write_faults shelf.new }
-    ensures cause { status result ≡ 5 → Rose (S.write_faults shelf.old) (S.write_faults shelf.new) }
-    ensures sure { S.IsSure shelf.old
-        → IsTold (S.contents shelf.old)
-        → S.write_faults shelf.new ≡ S.write_faults shelf.old }
+    ensures shelf { WritesFile S.contents S.read_faults S.write_faults S.IsSure (status result ≡ 5)
+        IsTold shelf.old shelf.new }
 {
     let Ok(listed) = list_all(alloc, d.names.as_slice(), proof.items.as_slice()) else {
         return Answer::NoMemory;

@@ -2,14 +2,16 @@
 
 ghost use Rattle.std.specs.Prelude.{◌≡◌, ℕ, ◌≤◌, List, All, length, map, IfOk};
 ghost use Rattle.mc_shelf.specs.Fault.{Rose};
+ghost use Rattle.mc_shelf.specs.Shelf.{TellsName};
 ghost use Rattle.tailrec_lang.specs.Tree.{group_tree};
 ghost use Rattle.tailrec_lang.specs.Eval.{HasFewNeeds};
 ghost use Rattle.tailrec_lang.specs.WellFormed.{IsWellFormed};
-ghost use Rattle.mcdec_commands.specs.Answer.{Gives, ReadsAreTold};
+ghost use Rattle.mcdec_commands.specs.Answer.{Gives};
 ghost use Rattle.mcdec_words.specs.Command.{Arg, AreArgs, IsMemory};
 ghost use Rattle.mcdec_words.specs.CommandReading.{HoldsArgs, IsReadEval, value_in};
 ghost use Rattle.mcdec_commands.specs.EvalAnswer.{EvalGives, proof_limit};
 ghost use Rattle.mcdec_commands.specs.inner.Search.{GroupGives, HasText};
+ghost use Rattle.mcdec_commands.specs.inner.Shelves.{ReadsFiles};
 
 use crate::load::{PROOF_LIMIT, not_read};
 use crate::memory::{memories, ranges_in};
@@ -30,15 +32,8 @@ pub fn answer_eval<S: Shelf>(alloc: Global, e: &Eval<'_>, shelf: &mut S) -> Answ
         → Gives (S.contents shelf.old) ws (Rose (S.read_faults shelf.old) (S.read_faults shelf.new))
         (Rose (S.write_faults shelf.old) (S.write_faults shelf.new)) result }
 
-    ensures kept { S.contents shelf.new ≡ S.contents shelf.old }
-    ensures counted { (S.read_faults shelf.old ≤ S.read_faults shelf.new)
-        × (S.write_faults shelf.old ≤ S.write_faults shelf.new) }
-    ensures sure { (ws : List (List ℕ))
-        → IsReadEval ws e.now
-        → S.IsSure shelf.old
-        → ReadsAreTold (S.contents shelf.old) ws
-        → (S.read_faults shelf.new ≡ S.read_faults shelf.old)
-        × (S.write_faults shelf.new ≡ S.write_faults shelf.old) }
+    ensures shelf { ReadsFiles S.contents S.read_faults S.write_faults S.IsSure
+        (λ told. TellsName told e.now.proof.now) shelf.old shelf.new }
 {
     let text = match read_file(alloc, shelf, e.proof, PROOF_LIMIT) {
         Ok(text) => text,

@@ -2,6 +2,7 @@
 
 ghost use Rattle.std.specs.Prelude.{◌≡◌, ℕ, ◌≤◌, IfOk, List as Items, Some, length};
 ghost use Rattle.mc_shelf.specs.Fault.{Rose};
+ghost use Rattle.mc_shelf.specs.Shelf.{TellsName};
 ghost use Rattle.tailrec_lang.specs.Tree.{group_tree};
 ghost use Rattle.group_text.specs.Spelling.{group_tokens};
 ghost use Rattle.mc_text.specs.Tokens.{spell};
@@ -9,11 +10,12 @@ ghost use Rattle.mc_text.specs.declared.token.Before.TheVariants.{Start};
 ghost use Rattle.fun_laws.specs.Limits.{IsCert, cert_texts};
 ghost use Rattle.fun_laws.specs.Spelling.{cert_text, cert_tree};
 ghost use Rattle.mc_text.specs.Fault.{IsBadAt, newlines};
-ghost use Rattle.mcdec_commands.specs.Answer.{Gives, ReadsAreTold};
+ghost use Rattle.mcdec_commands.specs.Answer.{Gives};
 ghost use Rattle.mcdec_commands.specs.EvalAnswer.{IsNamed, proof_limit};
 ghost use Rattle.mcdec_commands.specs.LawsAnswer.{TextsGive, step_line};
 ghost use Rattle.mcdec_commands.specs.inner.Judging.{CertGives};
 ghost use Rattle.mcdec_words.specs.CommandReading.{IsReadLaws};
+ghost use Rattle.mcdec_commands.specs.inner.Shelves.{ReadsFiles};
 
 use crate::load::{CERT_LIMIT, PROOF_LIMIT, not_read};
 use crate::search::{Refusal, find_group};
@@ -33,15 +35,9 @@ pub fn answer_laws<S: Shelf>(alloc: Global, l: &Laws<'_>, shelf: &mut S) -> Answ
         → Gives (S.contents shelf.old) ws (Rose (S.read_faults shelf.old) (S.read_faults shelf.new))
         (Rose (S.write_faults shelf.old) (S.write_faults shelf.new)) result }
 
-    ensures kept { S.contents shelf.new ≡ S.contents shelf.old }
-    ensures counted { (S.read_faults shelf.old ≤ S.read_faults shelf.new)
-        × (S.write_faults shelf.old ≤ S.write_faults shelf.new) }
-    ensures sure { (ws : Items (Items ℕ))
-        → IsReadLaws ws l.now
-        → S.IsSure shelf.old
-        → ReadsAreTold (S.contents shelf.old) ws
-        → (S.read_faults shelf.new ≡ S.read_faults shelf.old)
-        × (S.write_faults shelf.new ≡ S.write_faults shelf.old) }
+    ensures shelf { ReadsFiles S.contents S.read_faults S.write_faults S.IsSure
+        (λ told. TellsName told l.now.proof.now × TellsName told l.now.cert.now) shelf.old
+        shelf.new }
 {
     let file = match read_file(alloc, shelf, l.proof, PROOF_LIMIT) {
         Ok(file) => file,
@@ -56,15 +52,8 @@ fn judge_file<S: Shelf>(alloc: Global, file: &[u8], l: &Laws<'_>, shelf: &mut S)
     ensures gives { CertGives (S.contents shelf.old) l.now.cert.now file.now
         (Rose (S.read_faults shelf.old) (S.read_faults shelf.new)) result }
 
-    ensures kept { S.contents shelf.new ≡ S.contents shelf.old }
-    ensures counted { (S.read_faults shelf.old ≤ S.read_faults shelf.new)
-        × (S.write_faults shelf.old ≤ S.write_faults shelf.new) }
-    ensures sure { (ws : Items (Items ℕ))
-        → IsReadLaws ws l.now
-        → S.IsSure shelf.old
-        → ReadsAreTold (S.contents shelf.old) ws
-        → (S.read_faults shelf.new ≡ S.read_faults shelf.old)
-        × (S.write_faults shelf.new ≡ S.write_faults shelf.old) }
+    ensures shelf { ReadsFiles S.contents S.read_faults S.write_faults S.IsSure
+        (λ told. TellsName told l.now.cert.now) shelf.old shelf.new }
 {
     let text = match read_file(alloc, shelf, l.cert, CERT_LIMIT) {
         Ok(text) => text,

@@ -1,10 +1,11 @@
 //! The files that commands read: an ELF file's image, and the answer where a file isn't read.
 
-ghost use Rattle.std.specs.Prelude.{◌≡◌, ◌≤◌, IfErr, IfOk};
+ghost use Rattle.std.specs.Prelude.{◌≡◌, IfErr, IfOk};
 ghost use Rattle.mc_shelf.specs.Fault.{Rose};
 ghost use Rattle.mc_shelf.specs.Shelf.{TellsName};
 ghost use Rattle.mcdec_answers.specs.Printed.{status};
 ghost use Rattle.mcdec_commands.specs.inner.Loading.{IsImageIn, IsNotLoaded, not_read};
+ghost use Rattle.mcdec_commands.specs.inner.Shelves.{ReadsFiles};
 
 use elf_image::{ElfFault, Image, read};
 use mc_shelf::{ReadEnd, Shelf, read_file};
@@ -36,14 +37,8 @@ pub fn load_image<S: Shelf>(alloc: Global, shelf: &mut S, elf: &str) -> Result<I
     ensures fault { IfErr result (IsNotLoaded (S.contents shelf.old) elf.now
         (Rose (S.read_faults shelf.old) (S.read_faults shelf.new))) }
 
-    ensures kept { S.contents shelf.new ≡ S.contents shelf.old }
-    ensures counted { (S.read_faults shelf.old ≤ S.read_faults shelf.new)
-        × (S.write_faults shelf.old ≤ S.write_faults shelf.new) }
-    ensures stays_sure { S.IsSure shelf.old → S.IsSure shelf.new }
-    ensures sure { S.IsSure shelf.old
-        → TellsName (S.contents shelf.old) elf.now
-        → (S.read_faults shelf.new ≡ S.read_faults shelf.old)
-        × (S.write_faults shelf.new ≡ S.write_faults shelf.old) }
+    ensures shelf { ReadsFiles S.contents S.read_faults S.write_faults S.IsSure
+        (λ told. TellsName told elf.now) shelf.old shelf.new }
 {
     let file = match read_file(alloc, shelf, elf, ELF_LIMIT) {
         Ok(file) => file,

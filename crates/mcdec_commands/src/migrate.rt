@@ -1,18 +1,20 @@
 //! The command `migrate`.
 
-ghost use Rattle.std.specs.Prelude.{◌≡◌, ℕ, ◌≤◌, IfSome, List as Items, Some};
+ghost use Rattle.std.specs.Prelude.{◌≡◌, ℕ, IfSome, List as Items, Some};
 ghost use Rattle.mc_shelf.specs.Fault.{Rose, WhereTold};
+ghost use Rattle.mc_shelf.specs.Shelf.{TellsName};
 ghost use Rattle.elf_image.specs.Fault.{IsReadable};
 ghost use Rattle.elf_image.specs.Image.{image_of};
 ghost use Rattle.checker.specs.Verdicts.{IsAcceptance};
 ghost use Rattle.mcdec_answers.specs.Printed.{status};
-ghost use Rattle.mcdec_commands.specs.Answer.{Gives, ReadsAreTold};
+ghost use Rattle.mcdec_commands.specs.Answer.{Gives};
 ghost use Rattle.mcdec_commands.specs.MigrateAnswer.{IsMigrationFor};
 ghost use Rattle.mcdec_commands.specs.RunAnswer.{IsLoaded};
 ghost use Rattle.mcdec_commands.specs.inner.Loading.{not_loaded};
 ghost use Rattle.mcdec_commands.specs.inner.Migrating.{FileMigrates, refusal_of};
 ghost use Rattle.mcdec_commands.specs.inner.Writing.{WritesOut};
 ghost use Rattle.mcdec_words.specs.CommandReading.{IsReadMigrate};
+ghost use Rattle.mcdec_commands.specs.inner.Shelves.{ReadsThenWrites};
 
 use crate::load::{LoadFault, PROOF_LIMIT, load_image, not_read};
 use crate::output::write_answer;
@@ -34,15 +36,9 @@ pub fn answer_migrate<S: Shelf>(alloc: Global, m: &Migrate<'_>, shelf: &mut S) -
     ensures written { WhereTold (S.contents shelf.old) (S.contents shelf.new)
         (WritesOut (λ files. IsMigrationFor files m.now.elf.now m.now.proof.now) m.now.out.now
         result) }
-    ensures counted { (S.read_faults shelf.old ≤ S.read_faults shelf.new)
-        × (S.write_faults shelf.old ≤ S.write_faults shelf.new) }
-    ensures cause { status result ≡ 5 → Rose (S.write_faults shelf.old) (S.write_faults shelf.new) }
-    ensures sure { (ws : Items (Items ℕ))
-        → IsReadMigrate ws m.now
-        → S.IsSure shelf.old
-        → ReadsAreTold (S.contents shelf.old) ws
-        → (S.read_faults shelf.new ≡ S.read_faults shelf.old)
-        × (S.write_faults shelf.new ≡ S.write_faults shelf.old) }
+    ensures shelf { ReadsThenWrites S.contents S.read_faults S.write_faults S.IsSure
+        (status result ≡ 5) (λ told. TellsName told m.now.elf.now × TellsName told m.now.proof.now)
+        shelf.old shelf.new }
 {
     match load_image(alloc, shelf, m.elf) {
         Ok(image) => migrate_text(alloc, &image, m, shelf),
@@ -81,15 +77,8 @@ fn migrate_text<S: Shelf>(alloc: Global, image: &Image, m: &Migrate<'_>, shelf: 
         → WhereTold (S.contents shelf.old) (S.contents shelf.new)
         (WritesOut (λ files. IsMigrationFor files m.now.elf.now m.now.proof.now) m.now.out.now
         result) }
-    ensures counted { (S.read_faults shelf.old ≤ S.read_faults shelf.new)
-        × (S.write_faults shelf.old ≤ S.write_faults shelf.new) }
-    ensures cause { status result ≡ 5 → Rose (S.write_faults shelf.old) (S.write_faults shelf.new) }
-    ensures sure { (ws : Items (Items ℕ))
-        → IsReadMigrate ws m.now
-        → S.IsSure shelf.old
-        → ReadsAreTold (S.contents shelf.old) ws
-        → (S.read_faults shelf.new ≡ S.read_faults shelf.old)
-        × (S.write_faults shelf.new ≡ S.write_faults shelf.old) }
+    ensures shelf { ReadsThenWrites S.contents S.read_faults S.write_faults S.IsSure
+        (status result ≡ 5) (λ told. TellsName told m.now.proof.now) shelf.old shelf.new }
 {
     let text = match read_file(alloc, shelf, m.proof, PROOF_LIMIT) {
         Ok(text) => text,

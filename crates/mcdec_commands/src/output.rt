@@ -1,10 +1,11 @@
 //! The text that a command writes into its output file, one line a call.
 
 ghost use Rattle.std.specs.Prelude.{◌≡◌, ◌<◌, ◌≤◌, ◌++◌, IsErrOf, length};
-ghost use Rattle.mc_shelf.specs.Fault.{Rose, WhereTold};
+ghost use Rattle.mc_shelf.specs.Fault.{WhereTold};
 ghost use Rattle.mc_shelf.specs.Shelf.{TellsName};
 ghost use Rattle.mcdec_answers.specs.Printed.{status};
 ghost use Rattle.mcdec_commands.specs.inner.Writing.{AddsText, IsTold, ToldOrFault, Writes, WritesOut};
+ghost use Rattle.mcdec_commands.specs.inner.Shelves.{WritesFile};
 
 use mc_shelf::{Shelf, Stop};
 use mcdec_answers::Answer;
@@ -17,12 +18,8 @@ pub fn write_answer<S: Shelf>(shelf: &mut S, name: &str, text: &[u8], told: Answ
 
     ensures written { WhereTold (S.contents shelf.old) (S.contents shelf.new)
         (WritesOut (λ files b t. (b ≡ told) × (t ≡ text.now)) name.now result) }
-    ensures reads { S.read_faults shelf.new ≡ S.read_faults shelf.old }
-    ensures counted { S.write_faults shelf.old ≤ S.write_faults shelf.new }
-    ensures cause { status result ≡ 5 → Rose (S.write_faults shelf.old) (S.write_faults shelf.new) }
-    ensures sure { S.IsSure shelf.old
-        → IsTold (S.contents shelf.old)
-        → S.write_faults shelf.new ≡ S.write_faults shelf.old }
+    ensures shelf { WritesFile S.contents S.read_faults S.write_faults S.IsSure (status result ≡ 5)
+        IsTold shelf.old shelf.new }
 {
     match write_text(shelf, name, text) {
         Ok(()) => told,
@@ -36,13 +33,8 @@ fn write_text<S: Shelf>(shelf: &mut S, name: &str, text: &[u8]) -> Result<(), St
     ensures written { WhereTold (S.contents shelf.old) (S.contents shelf.new)
         (Writes result name.now text.now) }
 
-    ensures reads { S.read_faults shelf.new ≡ S.read_faults shelf.old }
-    ensures counted { S.write_faults shelf.old ≤ S.write_faults shelf.new }
-    ensures cause { IsErrOf result Stop.Failed
-        → Rose (S.write_faults shelf.old) (S.write_faults shelf.new) }
-    ensures sure { S.IsSure shelf.old
-        → IsTold (S.contents shelf.old)
-        → S.write_faults shelf.new ≡ S.write_faults shelf.old }
+    ensures shelf { WritesFile S.contents S.read_faults S.write_faults S.IsSure
+        (IsErrOf result Stop.Failed) IsTold shelf.old shelf.new }
 {
     shelf.create(name)?;
     append_lines(shelf, name, text)
@@ -53,13 +45,8 @@ fn append_lines<S: Shelf>(shelf: &mut S, name: &str, text: &[u8]) -> Result<(), 
     ensures added { WhereTold (S.contents shelf.old) (S.contents shelf.new)
         (AddsText result name.now text.now) }
 
-    ensures reads { S.read_faults shelf.new ≡ S.read_faults shelf.old }
-    ensures counted { S.write_faults shelf.old ≤ S.write_faults shelf.new }
-    ensures cause { IsErrOf result Stop.Failed
-        → Rose (S.write_faults shelf.old) (S.write_faults shelf.new) }
-    ensures sure { S.IsSure shelf.old
-        → TellsName (S.contents shelf.old) name.now
-        → S.write_faults shelf.new ≡ S.write_faults shelf.old }
+    ensures shelf { WritesFile S.contents S.read_faults S.write_faults S.IsSure
+        (IsErrOf result Stop.Failed) (λ told. TellsName told name.now) shelf.old shelf.new }
 {
     let mut rest = text;
     while !rest.is_empty() {

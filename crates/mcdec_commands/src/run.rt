@@ -1,16 +1,18 @@
 //! The command `run`.
 
-ghost use Rattle.std.specs.Prelude.{◌≡◌, ℕ, ◌≤◌, List, [], All, IfOk, OnOk};
+ghost use Rattle.std.specs.Prelude.{◌≡◌, ℕ, List, [], All, IfOk, OnOk};
 ghost use Rattle.elf_image.specs.Image.{IsPlaced, bytes_in, image_of, padded};
 ghost use Rattle.mc_shelf.specs.Fault.{Rose};
+ghost use Rattle.mc_shelf.specs.Shelf.{TellsName};
 ghost use Rattle.rv_words.specs.Bytes.{bytes_from};
 ghost use Rattle.rv_machine.specs.State.{state_of, with_bytes};
-ghost use Rattle.mcdec_commands.specs.Answer.{Gives, ReadsAreTold};
+ghost use Rattle.mcdec_commands.specs.Answer.{Gives};
 ghost use Rattle.mcdec_words.specs.Command.{AreArgs, AreGiven, Arg, Given, IsMemory, value_of};
 ghost use Rattle.mcdec_words.specs.CommandReading.{Holds, HoldsArgs, IsReadRun};
 ghost use Rattle.mcdec_commands.specs.RunAnswer.{IsLoaded, RunGives, state_given};
 ghost use Rattle.mcdec_commands.specs.inner.Loading.{not_loaded};
 ghost use Rattle.mcdec_commands.specs.inner.Running.{MachineGives, shown_with, with_placed};
+ghost use Rattle.mcdec_commands.specs.inner.Shelves.{ReadsFiles};
 
 use crate::load::{LoadFault, load_image, not_read};
 use crate::memory::ranges_now;
@@ -32,15 +34,8 @@ pub fn answer_run<S: Shelf>(alloc: Global, r: &Run<'_>, shelf: &mut S) -> Answer
         → Gives (S.contents shelf.old) ws (Rose (S.read_faults shelf.old) (S.read_faults shelf.new))
         (Rose (S.write_faults shelf.old) (S.write_faults shelf.new)) result }
 
-    ensures kept { S.contents shelf.new ≡ S.contents shelf.old }
-    ensures counted { (S.read_faults shelf.old ≤ S.read_faults shelf.new)
-        × (S.write_faults shelf.old ≤ S.write_faults shelf.new) }
-    ensures sure { (ws : List (List ℕ))
-        → IsReadRun ws r.now
-        → S.IsSure shelf.old
-        → ReadsAreTold (S.contents shelf.old) ws
-        → (S.read_faults shelf.new ≡ S.read_faults shelf.old)
-        × (S.write_faults shelf.new ≡ S.write_faults shelf.old) }
+    ensures shelf { ReadsFiles S.contents S.read_faults S.write_faults S.IsSure
+        (λ told. TellsName told r.now.elf.now) shelf.old shelf.new }
 {
     let image = match load_image(alloc, shelf, r.elf) {
         Ok(image) => image,

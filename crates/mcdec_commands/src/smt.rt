@@ -2,9 +2,10 @@
 
 ghost use Rattle.std.specs.Prelude.{◌≡◌, ℕ, ◌<◌, ◌≤◌, Err, IfSome, List as Items, Some, length};
 ghost use Rattle.mc_shelf.specs.Fault.{Rose, WhereTold};
+ghost use Rattle.mc_shelf.specs.Shelf.{TellsName};
 ghost use Rattle.tailrec_lang.specs.Tree.{group_tree};
 ghost use Rattle.tailrec_lang.specs.WellFormed.{IsWellFormed};
-ghost use Rattle.mcdec_commands.specs.Answer.{Gives, ReadsAreTold};
+ghost use Rattle.mcdec_commands.specs.Answer.{Gives};
 ghost use Rattle.mcdec_commands.specs.EvalAnswer.{IsNamed, proof_limit};
 ghost use Rattle.mcdec_answers.specs.Printed.{status};
 ghost use Rattle.mcdec_words.specs.CommandReading.{IsReadSmt};
@@ -12,6 +13,7 @@ ghost use Rattle.mcdec_commands.specs.SmtAnswer.{IsScriptFor};
 ghost use Rattle.mcdec_commands.specs.inner.Exporting.{DefGives};
 ghost use Rattle.mcdec_commands.specs.inner.Search.{Finds, HasText};
 ghost use Rattle.mcdec_commands.specs.inner.Writing.{IsTold, WritesOut};
+ghost use Rattle.mcdec_commands.specs.inner.Shelves.{ReadsThenWrites, WritesFile};
 
 use crate::load::{PROOF_LIMIT, not_read};
 use crate::output::write_answer;
@@ -35,15 +37,8 @@ pub fn answer_smt<S: Shelf>(alloc: Global, s: &Smt<'_>, shelf: &mut S) -> Answer
     ensures written { WhereTold (S.contents shelf.old) (S.contents shelf.new)
         (WritesOut (λ files. IsScriptFor files s.now.proof.now s.now.name.now s.now.def)
         s.now.out.now result) }
-    ensures counted { (S.read_faults shelf.old ≤ S.read_faults shelf.new)
-        × (S.write_faults shelf.old ≤ S.write_faults shelf.new) }
-    ensures cause { status result ≡ 5 → Rose (S.write_faults shelf.old) (S.write_faults shelf.new) }
-    ensures sure { (ws : Items (Items ℕ))
-        → IsReadSmt ws s.now
-        → S.IsSure shelf.old
-        → ReadsAreTold (S.contents shelf.old) ws
-        → (S.read_faults shelf.new ≡ S.read_faults shelf.old)
-        × (S.write_faults shelf.new ≡ S.write_faults shelf.old) }
+    ensures shelf { ReadsThenWrites S.contents S.read_faults S.write_faults S.IsSure
+        (status result ≡ 5) (λ told. TellsName told s.now.proof.now) shelf.old shelf.new }
 {
     let text = match read_file(alloc, shelf, s.proof, PROOF_LIMIT) {
         Ok(text) => text,
@@ -89,12 +84,8 @@ fn export_def<S: Shelf>(alloc: Global, g: &Group, s: &Smt<'_>, shelf: &mut S) ->
         → WhereTold (S.contents shelf.old) (S.contents shelf.new)
         (WritesOut (λ files. IsScriptFor files s.now.proof.now s.now.name.now s.now.def)
         s.now.out.now result) }
-    ensures reads { S.read_faults shelf.new ≡ S.read_faults shelf.old }
-    ensures counted { S.write_faults shelf.old ≤ S.write_faults shelf.new }
-    ensures cause { status result ≡ 5 → Rose (S.write_faults shelf.old) (S.write_faults shelf.new) }
-    ensures sure { S.IsSure shelf.old
-        → IsTold (S.contents shelf.old)
-        → S.write_faults shelf.new ≡ S.write_faults shelf.old }
+    ensures shelf { WritesFile S.contents S.read_faults S.write_faults S.IsSure (status result ≡ 5)
+        IsTold shelf.old shelf.new }
 {
     if s.def >= g.defs.len() as u64 {
         return Answer::Smt(SmtAnswer::NoDef);

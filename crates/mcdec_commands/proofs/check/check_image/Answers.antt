@@ -1,25 +1,19 @@
-use Rattle.std.proofs.Common.{rules, Option, take, ◌∙◌, sym, subst}
+use Rattle.std.proofs.Common.{rules, Option, take, sym, subst}
 use Rattle.mc_shelf.specs.Fault.{Rose}
-use Rattle.mc_shelf.specs.Shelf.{Contents, TellsName}
+use Rattle.mc_shelf.specs.Shelf.{Contents}
 use Rattle.proof_text.specs.inner.PulledRows.{WhereHeld}
 use Rattle.checker.specs.Pulled.{IfVerdict}
 use Rattle.text_versions.specs.Versions.{SaysOf}
 use Rattle.mcdec_answers.proofs.Prints.{rose-later}
 use Rattle.mcdec_commands.specs.inner.Checking.{ImageGives}
-use Rattle.mcdec_commands.proofs.Checking.{long-gives, pulled-gives, text-told}
+use Rattle.mcdec_commands.proofs.Checking.{long-gives, pulled-gives}
 use Rattle.mcdec_commands.proofs.check.check_image.Goals as goal
 
 pub returns-in-Err-Fault-clause-gives : goal.returns-in-Err-Fault-clause-gives
 returns-in-Err-Fault-clause-gives g c file loaded is = c.measure.ensures.cause (search rules)
 
-pub returns-in-Err-Fault-clause-sure : goal.returns-in-Err-Fault-clause-sure
-returns-in-Err-Fault-clause-sure g c ws is sure told = c.measure.ensures.sure_counts sure (text-told (g.S.Shelf.contents c.args.shelf.now) ws told c.args.c.now.elf.now c.args.c.now.proof.now is)
-
 pub returns-in-Err-TooLong-clause-gives : goal.returns-in-Err-TooLong-clause-gives
 returns-in-Err-TooLong-clause-gives g c file loaded is = long-gives (g.S.Shelf.contents c.args.shelf.now) c.args.c.now.proof.now file (Rose (g.S.Shelf.read_faults c.args.shelf.now) (g.S.Shelf.read_faults c.measure.new.shelf)) loaded (c.measure.ensures.too_long (search rules))
-
-pub returns-in-Err-TooLong-clause-sure : goal.returns-in-Err-TooLong-clause-sure
-returns-in-Err-TooLong-clause-sure g c ws is sure told = c.measure.ensures.sure_counts sure (text-told (g.S.Shelf.contents c.args.shelf.now) ws told c.args.c.now.elf.now c.args.c.now.proof.now is)
 
 pub returns-clause-gives : goal.returns-clause-gives
 returns-clause-gives g c file loaded is =
@@ -29,9 +23,3 @@ returns-clause-gives g c file loaded is =
     (pulled-gives c.args.c.now.proof.now file c.in-Ok.size loaded c.in-Ok.ensures.within told rose c.in-Ok.ensures.whole c.check_file.result
     (subst (λ (held : Option Contents). IfVerdict c.check_file.result (λ v. WhereHeld held c.args.c.now.proof.now (λ text. SaysOf file (take c.in-Ok.size text) v))) c.measure.ensures.kept (c.check_file.ensures.verdict file loaded.1 is))
     (λ failed. rose-later _ _ _ c.measure.ensures.counted.0 (c.check_file.ensures.shelf.cause failed)))
-
-pub returns-clause-sure : goal.returns-clause-sure
-returns-clause-sure g c ws is sure told =
-    let first = c.measure.ensures.sure_counts sure (text-told (g.S.Shelf.contents c.args.shelf.now) ws told c.args.c.now.elf.now c.args.c.now.proof.now is) in
-    let later = c.check_file.ensures.shelf in
-    (later.sure_counts (c.measure.ensures.stays_sure sure) (subst (λ (held : Option Contents). TellsName held c.args.c.now.proof.now) (sym c.measure.ensures.kept) (text-told (g.S.Shelf.contents c.args.shelf.now) ws told c.args.c.now.elf.now c.args.c.now.proof.now is)) ∙ first.0, later.writes ∙ first.1)

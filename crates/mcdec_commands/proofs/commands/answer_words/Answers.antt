@@ -1,4 +1,4 @@
-use Rattle.std.proofs.Common.{refl, rules, subst}
+use Rattle.std.proofs.Common.{[], arith, refl, rules, subst}
 use Rattle.mcdec_words.specs.Command.{IsNoCommand, texts}
 use Rattle.mcdec_answers.proofs.Prints.{told_same}
 use Rattle.mcdec_words.specs.CommandReading.{IsRead}
@@ -45,18 +45,18 @@ pub returns-in-Eval-clause-written : goal.returns-in-Eval-clause-written
 returns-in-Eval-clause-written g c =
     let is = subst (λ (command : Read). IsRead (texts c.args.words.now) command) c.in-Eval.is c.in-Ok.ensures in
     let e = c.in-Eval.e in
-    none-written (texts c.args.words.now) (Eval e.proof.now e.name.now e.turns is.0) is.1 refl _ _ _ _ c.answer_eval.ensures.kept
+    none-written (texts c.args.words.now) (Eval e.proof.now e.name.now e.turns is.0) is.1 refl _ _ _ _ c.answer_eval.ensures.shelf.kept
 
 pub returns-in-Run-clause-written : goal.returns-in-Run-clause-written
 returns-in-Run-clause-written g c =
     let is = subst (λ (command : Read). IsRead (texts c.args.words.now) command) c.in-Run.is c.in-Ok.ensures in
     let r = c.in-Run.r in
-    none-written (texts c.args.words.now) (Run r.elf.now r.start.now r.until r.steps is.0) is.1 refl _ _ _ _ c.answer_run.ensures.kept
+    none-written (texts c.args.words.now) (Run r.elf.now r.start.now r.until r.steps is.0) is.1 refl _ _ _ _ c.answer_run.ensures.shelf.kept
 
 pub returns-in-Check-clause-written : goal.returns-in-Check-clause-written
 returns-in-Check-clause-written g c =
     let is = subst (λ (command : Read). IsRead (texts c.args.words.now) command) c.in-Check.is c.in-Ok.ensures in
-    none-written (texts c.args.words.now) (Check c.in-Check.c.elf.now c.in-Check.c.proof.now) is refl _ _ _ _ c.answer_check.ensures.kept
+    none-written (texts c.args.words.now) (Check c.in-Check.c.elf.now c.in-Check.c.proof.now) is refl _ _ _ _ c.answer_check.ensures.shelf.kept
 
 pub returns-in-Decompile-clause-written : goal.returns-in-Decompile-clause-written
 returns-in-Decompile-clause-written g c =
@@ -123,7 +123,7 @@ returns-in-Laws-clause-gives g c =
 pub returns-in-Laws-clause-written : goal.returns-in-Laws-clause-written
 returns-in-Laws-clause-written g c =
     let is = subst (λ (command : Read). IsRead (texts c.args.words.now) command) c.in-Laws.is c.in-Ok.ensures in
-    none-written (texts c.args.words.now) (Laws c.in-Laws.l.proof.now c.in-Laws.l.cert.now) is refl _ _ _ _ c.answer_laws.ensures.kept
+    none-written (texts c.args.words.now) (Laws c.in-Laws.l.proof.now c.in-Laws.l.cert.now) is refl _ _ _ _ c.answer_laws.ensures.shelf.kept
 
 pub returns-in-Smt-clause-gives : goal.returns-in-Smt-clause-gives
 returns-in-Smt-clause-gives g c =
@@ -156,3 +156,51 @@ returns-in-Migrate-clause-kept g c =
     let is = subst (λ (command : Read). IsRead (texts c.args.words.now) command) c.in-Migrate.is c.in-Ok.ensures in
     let m = c.in-Migrate.m in
     others-kept (texts c.args.words.now) (Migrate m.elf.now m.proof.now m.out.now) m.out.now is refl _ _ _ c.answer_migrate.ensures.written
+
+pub returns-in-Eval-clause-sure : goal.returns-in-Eval-clause-sure
+returns-in-Eval-clause-sure g c sure told =
+    let is = subst (λ (command : Read). IsRead (texts c.args.words.now) command) c.in-Eval.is c.in-Ok.ensures in
+    let e = c.in-Eval.e in
+    c.answer_eval.ensures.shelf.sure sure (told (Eval e.proof.now e.name.now e.turns is.0) is.1 0 [] (omega arith))
+
+pub returns-in-Run-clause-sure : goal.returns-in-Run-clause-sure
+returns-in-Run-clause-sure g c sure told =
+    let is = subst (λ (command : Read). IsRead (texts c.args.words.now) command) c.in-Run.is c.in-Ok.ensures in
+    let r = c.in-Run.r in
+    c.answer_run.ensures.shelf.sure sure (told (Run r.elf.now r.start.now r.until r.steps is.0) is.1 0 [] (omega arith))
+
+pub returns-in-Check-clause-sure : goal.returns-in-Check-clause-sure
+returns-in-Check-clause-sure g c sure told =
+    let is = subst (λ (command : Read). IsRead (texts c.args.words.now) command) c.in-Check.is c.in-Ok.ensures in
+    let tells = told (Check c.in-Check.c.elf.now c.in-Check.c.proof.now) is in
+    c.answer_check.ensures.shelf.sure sure (tells 0 [] (omega arith), tells 1 [] (omega arith))
+
+pub returns-in-Decompile-clause-sure : goal.returns-in-Decompile-clause-sure
+returns-in-Decompile-clause-sure g c sure told =
+    let is = subst (λ (command : Read). IsRead (texts c.args.words.now) command) c.in-Decompile.is c.in-Ok.ensures in
+    let d = c.in-Decompile.d in
+    c.answer_decompile.ensures.shelf.sure sure (told (Decompile d.form d.elf.now d.out.now d.names) is 0 [] (omega arith))
+
+pub returns-in-Simplify-clause-sure : goal.returns-in-Simplify-clause-sure
+returns-in-Simplify-clause-sure g c sure told =
+    let is = subst (λ (command : Read). IsRead (texts c.args.words.now) command) c.in-Simplify.is c.in-Ok.ensures in
+    let s = c.in-Simplify.s in
+    c.answer_simplify.ensures.shelf.sure sure (told (Simplify s.proof.now s.name.now s.out.now) is 0 [] (omega arith))
+
+pub returns-in-Laws-clause-sure : goal.returns-in-Laws-clause-sure
+returns-in-Laws-clause-sure g c sure told =
+    let is = subst (λ (command : Read). IsRead (texts c.args.words.now) command) c.in-Laws.is c.in-Ok.ensures in
+    let tells = told (Laws c.in-Laws.l.proof.now c.in-Laws.l.cert.now) is in
+    c.answer_laws.ensures.shelf.sure sure (tells 0 [] (omega arith), tells 1 [] (omega arith))
+
+pub returns-in-Smt-clause-sure : goal.returns-in-Smt-clause-sure
+returns-in-Smt-clause-sure g c sure told =
+    let is = subst (λ (command : Read). IsRead (texts c.args.words.now) command) c.in-Smt.is c.in-Ok.ensures in
+    let s = c.in-Smt.s in
+    c.answer_smt.ensures.shelf.sure sure (told (Smt s.proof.now s.name.now s.def s.out.now) is 0 [] (omega arith))
+
+pub returns-in-Migrate-clause-sure : goal.returns-in-Migrate-clause-sure
+returns-in-Migrate-clause-sure g c sure told =
+    let is = subst (λ (command : Read). IsRead (texts c.args.words.now) command) c.in-Migrate.is c.in-Ok.ensures in
+    let tells = told (Migrate c.in-Migrate.m.elf.now c.in-Migrate.m.proof.now c.in-Migrate.m.out.now) is in
+    c.answer_migrate.ensures.shelf.sure sure (tells 0 [] (omega arith), tells 1 [] (omega arith))

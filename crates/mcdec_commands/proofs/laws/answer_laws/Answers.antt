@@ -1,14 +1,14 @@
-use Rattle.std.proofs.Common.{◌∙◌, sym, subst}
+use Rattle.std.proofs.Common.{subst}
 use Rattle.mc_shelf.specs.Fault.{Rose}
 use Rattle.mcdec_words.specs.Command.{Laws}
 use Rattle.mcdec_answers.specs.declared.answer.Answer.TheVariants as answer
 use Rattle.mcdec_answers.specs.declared.answer.LawsAnswer.TheVariants as la
-use Rattle.mcdec_commands.specs.Answer.{Gives, ReadsAreTold}
+use Rattle.mcdec_commands.specs.Answer.{Gives}
 use Rattle.mcdec_commands.specs.EvalAnswer.{proof_limit}
 use Rattle.mcdec_commands.specs.inner.Judging.{CertGives}
 use Rattle.mcdec_answers.proofs.Prints.{rose-later}
 use Rattle.mcdec_commands.proofs.Checking.{two-files}
-use Rattle.mcdec_commands.proofs.Judging.{cert-gives, laws-proof-told}
+use Rattle.mcdec_commands.proofs.Judging.{cert-gives}
 use Rattle.mcdec_commands.proofs.Loading.{unread, unread-so}
 use Rattle.mcdec_commands.proofs.laws.answer_laws.Goals as goal
 
@@ -22,9 +22,6 @@ returns-in-Err-clause-gives g c ws is =
     (λ long. (l.proof.now, l.cert.now, is, long)) c.in-Err.end (unread told l.proof.now rose proof_limit c.read_file.result c.in-Err.end c.in-Err.is c.read_file.ensures.cause c.read_file.ensures.too_long)
     c.not_read.result c.not_read.ensures.answer
 
-pub returns-in-Err-clause-sure : goal.returns-in-Err-clause-sure
-returns-in-Err-clause-sure g c ws is sure told = c.read_file.ensures.sure_counts sure (laws-proof-told (g.S.Shelf.contents c.args.shelf.now) ws told c.args.l.now.proof.now c.args.l.now.cert.now is)
-
 pub returns-clause-gives : goal.returns-clause-gives
 returns-clause-gives g c ws is =
     let l = c.args.l.now in
@@ -35,9 +32,3 @@ returns-clause-gives g c ws is =
     (Rose (g.S.Shelf.write_faults c.args.shelf.now) (g.S.Shelf.write_faults c.judge_file.new.shelf))
     later is c.in-Ok.ensures.whole (rose-later _ _ _ c.read_file.ensures.counted.0) c.judge_file.result
     (subst (λ told. CertGives told l.cert.now c.in-Ok.file later c.judge_file.result) c.read_file.ensures.kept gives)
-
-pub returns-clause-sure : goal.returns-clause-sure
-returns-clause-sure g c ws is sure told =
-    let first = c.read_file.ensures.sure_counts sure (laws-proof-told (g.S.Shelf.contents c.args.shelf.now) ws told c.args.l.now.proof.now c.args.l.now.cert.now is) in
-    let later = c.judge_file.ensures.sure ws is (c.read_file.ensures.stays_sure sure) (subst (λ held. ReadsAreTold held ws) (sym c.read_file.ensures.kept) told) in
-    (later.0 ∙ first.0, later.1 ∙ first.1)

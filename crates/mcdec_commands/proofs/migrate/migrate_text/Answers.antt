@@ -1,4 +1,4 @@
-use Rattle.std.proofs.Common.{◌∙◌, ◌≡◌, List, ℕ, Option, Some, sym, subst}
+use Rattle.std.proofs.Common.{◌≡◌, List, ℕ, Option, Some, sym, subst}
 use Rattle.mc_shelf.specs.Fault.{Rose, WhereTold}
 use Rattle.mc_shelf.specs.Shelf.{Contents}
 use Rattle.proof_v2.specs.MigratedText.{IsMigratedText}
@@ -9,36 +9,25 @@ use Rattle.mcdec_answers.specs.declared.answer.MigrateAnswer.TheVariants as mi
 use Rattle.mcdec_commands.specs.EvalAnswer.{proof_limit}
 use Rattle.mcdec_commands.specs.MigrateAnswer.{IsMigrationFor}
 use Rattle.mcdec_commands.specs.inner.Migrating.{FileMigrates}
-use Rattle.mcdec_commands.specs.inner.Writing.{IsTold, WritesOut}
+use Rattle.mcdec_commands.specs.inner.Writing.{WritesOut}
 use Rattle.mcdec_commands.proofs.Leaving.{IsThis}
-use Rattle.mcdec_commands.proofs.Leaving.{is-told, nothing-written, text-by}
+use Rattle.mcdec_commands.proofs.Leaving.{nothing-written, text-by}
 use Rattle.mcdec_commands.proofs.Loading.{unread, unread-so}
-use Rattle.mcdec_commands.proofs.Migrating.{both-held, migrate-proof-told, migration-for, refused-gives}
+use Rattle.mcdec_commands.proofs.Migrating.{both-held, migration-for, refused-gives}
 use Rattle.mcdec_commands.proofs.migrate.migrate_text.Goals as goal
 
-pub returns-in-Err : goal.returns-in-Err
-returns-in-Err g c =
+pub returns-in-Err-clause-gives : goal.returns-in-Err-clause-gives
+returns-in-Err-clause-gives g c file loaded image =
     let m = c.args.m.now in
     let told = g.S.Shelf.contents c.args.shelf.now in
     let rose = Rose (g.S.Shelf.read_faults c.args.shelf.now) (g.S.Shelf.read_faults c.read_file.new.shelf) in
-    record {
-      gives = λ file loaded image.
-          unread-so told m.proof.now rose (FileMigrates told m.proof.now file rose) (λ rises. rises) tt (answer.Migrate mi.ProofOverLimit) proof_limit (λ long. (loaded, long)) c.in-Err.end
-          (unread told m.proof.now rose proof_limit c.read_file.result c.in-Err.end c.in-Err.is c.read_file.ensures.cause c.read_file.ensures.too_long) c.not_read.result c.not_read.ensures.answer;
-      written = λ file loaded image held. nothing-written (λ files. IsMigrationFor files m.elf.now m.proof.now) m.out.now c.not_read.result _ _ c.read_file.ensures.kept c.not_read.ensures.refused;
-      counted = c.read_file.ensures.counted;
-      cause = λ five. absurd (c.not_read.ensures.no_fault five);
-      sure = λ ws is sure all. c.read_file.ensures.sure_counts sure (migrate-proof-told told ws all m.elf.now m.proof.now m.out.now is);
-    }
+    unread-so told m.proof.now rose (FileMigrates told m.proof.now file rose) (λ rises. rises) tt (answer.Migrate mi.ProofOverLimit) proof_limit (λ long. (loaded, long)) c.in-Err.end
+    (unread told m.proof.now rose proof_limit c.read_file.result c.in-Err.end c.in-Err.is c.read_file.ensures.cause c.read_file.ensures.too_long) c.not_read.result c.not_read.ensures.answer
 
-pub returns-in-Ok-migrate_image-clause-sure : goal.returns-in-Ok-migrate_image-clause-sure
-returns-in-Ok-migrate_image-clause-sure g c ws is sure told =
+pub returns-in-Err-clause-written : goal.returns-in-Err-clause-written
+returns-in-Err-clause-written g c file loaded image held =
     let m = c.args.m.now in
-    let known = migrate-proof-told (g.S.Shelf.contents c.args.shelf.now) ws told m.elf.now m.proof.now m.out.now is in
-    let first = c.read_file.ensures.sure_counts sure known in
-    let still : IsTold (g.S.Shelf.contents c.read_file.new.shelf) = subst IsTold (sym c.read_file.ensures.kept) (is-told _ _ known) in
-    let later = c.write_answer.ensures.sure (c.read_file.ensures.stays_sure sure) still in
-    (c.write_answer.ensures.reads ∙ first.0, later ∙ first.1)
+    nothing-written (λ files. IsMigrationFor files m.elf.now m.proof.now) m.out.now c.not_read.result _ _ c.read_file.ensures.kept c.not_read.ensures.refused
 
 pub returns-clause-gives : goal.returns-clause-gives
 returns-clause-gives g c file loaded image =
@@ -48,10 +37,6 @@ returns-clause-gives g c file loaded image =
     let says = subst (λ t. Says file t c.in-Err-migrate_image.why) c.as_slice.ensures (c.in-Err-migrate_image.ensures.refused file loaded.1 image) in
     subst (FileMigrates told m.proof.now file rose) (sym c.refuse.ensures.answer)
     (refused-gives told m.proof.now file c.in-Ok.text rose loaded c.in-Ok.ensures.within c.in-Ok.ensures.whole c.in-Err-migrate_image.why says c.in-Err-migrate_image.ensures.no_acceptance)
-
-pub returns-clause-sure : goal.returns-clause-sure
-returns-clause-sure g c ws is sure told =
-    let m = c.args.m.now in c.read_file.ensures.sure_counts sure (migrate-proof-told (g.S.Shelf.contents c.args.shelf.now) ws told m.elf.now m.proof.now m.out.now is)
 
 pub returns-in-Ok-migrate_image-clause-written : goal.returns-in-Ok-migrate_image-clause-written
 returns-in-Ok-migrate_image-clause-written g c file loaded image held =

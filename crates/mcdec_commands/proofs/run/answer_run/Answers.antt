@@ -4,7 +4,7 @@ use Rattle.mcdec_answers.specs.declared.answer.Answer.TheVariants as answer
 use Rattle.mcdec_answers.specs.declared.answer.RunAnswer.TheVariants as run
 use Rattle.mcdec_commands.specs.Answer.{Gives}
 use Rattle.mcdec_commands.specs.RunAnswer.{RunGives}
-use Rattle.mcdec_commands.proofs.Answers.{held-with, elf-told, one-file}
+use Rattle.mcdec_commands.proofs.Answers.{held-with, one-file}
 use Rattle.mcdec_commands.proofs.Loading.{unloaded-so}
 use Rattle.mcdec_commands.proofs.run.answer_run.Goals as goal
 
@@ -22,14 +22,6 @@ returns-in-Ok-run_loaded-clause-gives g c ws is =
           (c.in-Ok-run_loaded.ensures is.0 is.1.0.4 is.2 image.file image.loaded image.is),
     )
 
-pub returns-in-Ok-run_loaded-clause-sure : goal.returns-in-Ok-run_loaded-clause-sure
-returns-in-Ok-run_loaded-clause-sure g c ws is sure told =
-    let r = c.args.r.now in c.load_image.ensures.sure sure (elf-told (g.S.Shelf.contents c.args.shelf.now) ws told r.elf.now r.start.now r.until r.steps is.0 is.1)
-
-pub returns-in-Err-run_loaded-clause-sure : goal.returns-in-Err-run_loaded-clause-sure
-returns-in-Err-run_loaded-clause-sure g c ws is sure told =
-    let r = c.args.r.now in c.load_image.ensures.sure sure (elf-told (g.S.Shelf.contents c.args.shelf.now) ws told r.elf.now r.start.now r.until r.steps is.0 is.1)
-
 pub returns-in-Err-clause-gives : goal.returns-in-Err-clause-gives
 returns-in-Err-clause-gives g c ws is =
     let r = c.args.r.now in
@@ -39,7 +31,3 @@ returns-in-Err-clause-gives g c ws is =
     unloaded-so told r.elf.now rose (Gives told ws rose wrote) (λ rises. (Run r.elf.now r.start.now r.until r.steps is.0, is.1, one-file r.elf.now, rises)) tt (answer.Run run.OverLimit)
     (λ why. answer.Run (run.Unreadable why)) (λ long. (r.elf.now, r.start.now, r.until, r.steps, is.0, is.1, long)) (λ why bad. (r.elf.now, r.start.now, r.until, r.steps, is.0, is.1, bad))
     c.in-Err.fault c.in-Err.ensures.fault c.not_loaded.result c.not_loaded.ensures
-
-pub returns-in-Err-clause-sure : goal.returns-in-Err-clause-sure
-returns-in-Err-clause-sure g c ws is sure told =
-    let r = c.args.r.now in c.load_image.ensures.sure sure (elf-told (g.S.Shelf.contents c.args.shelf.now) ws told r.elf.now r.start.now r.until r.steps is.0 is.1)
