@@ -1,14 +1,13 @@
 -- What is claimed of a group's function is claimed of one whose definitions evaluate alike.
-use Rattle.std.proofs.Common.{◌≡◌, ℕ, zero, suc, ◌-◌, ◌*◌, ◌<◌, ◌^◌, List, [], ◌∷◌, length, map, slice_get, Bool, true, false, true≢false, Option, Some, None, refl, sym, ap, subst, ◌∙◌, arith}
+use Rattle.std.proofs.Common.{◌≡◌, ℕ, zero, suc, ◌-◌, ◌*◌, ◌<◌, ◌^◌, List, [], ◌∷◌, length, map, slice_get, Bool, true, false, true≢false, Option, Some, None, refl, sym, ap, ◌∙◌}
 use Rattle.std.specs.Prelude.{slice_set, option_map, unwrap_or, is_some, if◌then◌else◌}
 use Rattle.std.specs.List.{AllByRecursion}
 use Rattle.std.proofs.lemmas.List.{length-map}
-use Rattle.rv_words.specs.Bytes.{Bytes, AreBytes, IsMemory}
+use Rattle.rv_words.specs.Bytes.{Bytes, IsMemory}
 use Rattle.rv_machine.specs.State.{State, IsState}
-use Rattle.triple_kernel.specs.Valid.{Reaches}
 use Rattle.tailrec_lang.specs.declared.group.Exit.{Exit}
 use Rattle.tailrec_lang.specs.Tree.{DefTree, GroupTree, exits_at, listed_def}
-use Rattle.tailrec_lang.specs.Eval.{Arguments, Done, eval}
+use Rattle.tailrec_lang.specs.Eval.{Arguments, eval}
 use Rattle.group_terms.specs.Range.{ArgumentsInRange}
 use Rattle.term_laws.specs.declared.step.Rw.{Rw}
 use Rattle.def_laws.specs.Evaluation.{EvaluateAlike}

@@ -1,16 +1,16 @@
 -- Evaluation without loops ends: of a definition that reaches none that enters itself again, some turns are enough for all arguments.
-use Rattle.std.proofs.Common.{◌≡◌, ℕ, zero, suc, ◌+◌, ◌<◌, ◌≤◌, arith, refl, sym, ap, subst, ◌∙◌, Option, Some, None, Bool, true, false, cond, List, [], ◌∷◌, ◌++◌}
-use Rattle.std.specs.Prelude.{◌||◌, ◌==◌, slice_get, option_map, unwrap_or}
+use Rattle.std.proofs.Common.{◌≡◌, ℕ, zero, suc, ◌+◌, ◌<◌, ◌≤◌, arith, refl, sym, subst, Option, Some, None, Bool, true, false, cond, List, [], ◌∷◌, ◌++◌}
+use Rattle.std.specs.Prelude.{◌||◌, ◌==◌, slice_get}
 use Rattle.std.proofs.lemmas.Bool.{eq-eqb}
 use Rattle.word_terms.specs.Environment.{Environment, no_variables}
 use Rattle.word_terms.specs.Value.{cond_holds}
 use Rattle.tailrec_lang.specs.declared.group.Exit.{Exit}
 use Rattle.tailrec_lang.specs.declared.group.Exit.TheVariants.{At, Ret}
 use Rattle.tailrec_lang.specs.Tree.{BodyTree, Do, Branch, Call, Again, Leave, ArmTrees, NoArm, Arm, DefTree, GroupTree, exits_at}
-use Rattle.tailrec_lang.specs.Eval.{Arguments, Ending, Exited, NeedFalse, NoTurns, Nothing, Meaning, Outcome, Done, SideFalse, Turns, NoOutcome, and_then, after_step, step_holds, step_needs, needs, arguments_of, body_ending, arm_ending, with_arguments, ending, eval, done_by, with_pc}
+use Rattle.tailrec_lang.specs.Eval.{Arguments, Ending, Exited, NeedFalse, NoTurns, Nothing, Turns, and_then, after_step, step_holds, step_needs, needs, arguments_of, body_ending, arm_ending, with_arguments, ending, eval, done_by, with_pc}
 use Rattle.tailrec_lang.specs.WellFormed.{IsWellFormed, BodyIsWellFormed, ArmsAreWellFormed, exit_words, mems_after, words_after}
 use Rattle.tailrec_lang.proofs.Turns.{ending-suc, of_def}
-use Rattle.smt_export.specs.Reach.{Calls, EntersAgain, IsLoopFree, ReachesBy, ReachesByCalls, arms_call, arms_enter, calls, enters}
+use Rattle.smt_export.specs.Reach.{Calls, IsLoopFree, ReachesBy, arms_call, arms_enter, calls, enters}
 
 -- ---- how many turns are enough
 

@@ -1,7 +1,6 @@
 -- What is claimed of a group's function is told by a script of it.
-use Rattle.std.proofs.Common.{◌≡◌, ℕ, ◌*◌, List, [], true, false, refl, sym, ap, subst, ◌∙◌}
+use Rattle.std.proofs.Common.{◌≡◌, ℕ, ◌*◌, List, [], true, false, refl, sym, subst, ◌∙◌}
 use Rattle.rv_machine.specs.State.{State}
-use Rattle.triple_kernel.specs.Valid.{Reaches}
 use Rattle.tailrec_lang.specs.Tree.{GroupTree, listed_def}
 use Rattle.tailrec_lang.specs.WellFormed.{IsWellFormed}
 use Rattle.tailrec_lang.specs.Eval.{Arguments, Outcome, Done, SideFalse, Turns, NoOutcome, eval}
@@ -10,14 +9,14 @@ use Rattle.smt_terms.specs.Meaning.{FunTree}
 use Rattle.smt_export.specs.declared.told.Told.{Told}
 use Rattle.smt_export.specs.declared.told.Told.TheVariants.{Ok}
 use Rattle.smt_export.specs.Reach.{IsLoopFree}
-use Rattle.smt_export.specs.Telling.{AreArgumentValues, TellsEval, TellsOutcome}
-use Rattle.claims.specs.Headline.{Region, Starts, Ends, IsRight, held_in}
+use Rattle.smt_export.specs.Telling.{TellsEval, TellsOutcome}
+use Rattle.claims.specs.Headline.{Region, Starts, IsRight, held_in}
 use Rattle.elf_image.specs.Image.{code_of_file}
 use Rattle.claims.specs.Exact.{FirstReturns, Gives}
 use Rattle.claims.specs.LinkExact.{FirstReturnsIn, ReturnsBack}
 use Rattle.call_link.specs.Listing.{InFirstMemory}
 use Rattle.stack_split.specs.SplitExact.{UsesSplit}
-use Rattle.carried_claims.specs.Scripts.{EndsAsTold, IsExactScript, IsRightScript, TellsClaims, told_by}
+use Rattle.carried_claims.specs.Scripts.{IsExactScript, IsRightScript, TellsClaims, told_by}
 use Rattle.carried_claims.proofs.Ends.{ends}
 
 -- an evaluation that is done
@@ -29,7 +28,7 @@ record IsDone (o : Outcome) : Type 0 where
   is : o ≡ Done exit pc results left
 
 not-both : (v : Value) → v ≡ Truth true → v ≡ Truth false → ⊥
-not-both v yes no = let clash : Truth true ≡ Truth false = sym yes ∙ no in cc
+not-both v one other = let clash : Truth true ≡ Truth false = sym one ∙ other in cc
 
 -- with `ok` true, and turns enough
 done : (g : GroupTree) (f : Told → Value) (o : Outcome) → TellsOutcome g o f → f Ok ≡ Truth true → (o ≡ Turns → ⊥) → IsDone o
