@@ -1,4 +1,4 @@
-"""usage: mc functions [--link | --split] [--jobs N] ELF [OUT]
+"""usage: mc functions [--link | --split] [--inside] [--jobs N] ELF [OUT]
 
 Says of each function of an ELF file whether it is inside, and if not, why not; and a summary.
 
@@ -8,6 +8,7 @@ line has its number of instructions and definitions, or the reason of the refusa
 
   --link    takes each together with the functions that it calls (`link`)
   --split   gives each its stack as a second memory (`split`), and says how many of its loads and stores are to it
+  --inside  of functions that are refused no line is printed
   OUT       gets the text of all that aren't refused, which is then checked. That text is held in memory, nine bytes for
             each byte of it, and of a large file it has hundreds of megabytes
 
@@ -100,8 +101,8 @@ def listed(names, most=4):
 class Report:
     """The lines of the functions as they come, and the summary."""
 
-    def __init__(self, command, count):
-        self.command, self.count = command, count
+    def __init__(self, command, count, is_short=False):
+        self.command, self.count, self.is_short = command, count, is_short
         self.inside, self.why, self.on_stack, self.in_both = [], collections.Counter(), [], []
         self.shows_progress = sys.stderr.isatty()
 
@@ -115,7 +116,8 @@ class Report:
         else:
             self.why[reason] += 1
         self.wipe()
-        print(f"{address:#x}  {name:28}  {text}", flush=True)
+        if reason is None or not self.is_short:
+            print(f"{address:#x}  {name:28}  {text}", flush=True)
         if self.shows_progress:
             done = len(self.inside) + sum(self.why.values())
             print(f"{done} of {self.count}, {len(self.inside)} inside", end="", file=sys.stderr, flush=True)
@@ -160,6 +162,7 @@ def parse(arguments):
     which = parser.add_mutually_exclusive_group()
     for command in ("link", "split"):
         which.add_argument(f"--{command}", dest="command", action="store_const", const=command, default="decompile")
+    parser.add_argument("--inside", action="store_true")
     parser.add_argument("--jobs", type=int, default=os.cpu_count())
     parser.add_argument("elf", metavar="ELF")
     parser.add_argument("out", metavar="OUT", nargs="?")
@@ -199,11 +202,23 @@ def main(arguments):
             return fail(f"{found.elf}: no function in its symbols (is it stripped?). `mc decompile` takes addresses too")
         for line in remarks(functions):
             print(line)
-        report = Report(found.command, len(functions.words))
+        if is_function_alone(found.out, functions):
+            return fail(f"OUT `{found.out}` is the name of a function there, and was to be a file: nothing was done. {advice_for_one(found)}", 2)
+        report = Report(found.command, len(functions.words), found.inside)
         for (address, word), answer in zip(functions.words.items(), answers(found, functions.words.items(), folder, found.jobs)):
             report.line(address, functions.names[address], word, answer, os.path.join(folder, f"{address:x}"))
     report.summary()
     return write(found, report.inside) if found.out is not None and report.inside else 0
+
+
+def is_function_alone(out, functions):
+    """Whether OUT is a function's name, and no file that is there: then the function was meant."""
+    return out is not None and out in functions.places and not os.path.exists(out)
+
+
+def advice_for_one(found):
+    """How that function is taken alone."""
+    return f"Alone it is taken by `mc {found.command} {found.elf} OUT {found.out}`; a file of that name is `./{found.out}`"
 
 
 def why_unread(path, line):

@@ -9,7 +9,7 @@ these are the definitions that it ends with. The lines of proofs are left out.
   --elf FILE  beside each definition the instructions that its proof cites, by a disassembler that
               is found on the path; behind lines the word that the file has where one is loaded
               from a constant address, and the names of other addresses of data
-  --html      as a page, to the standard output
+  --html      as a page, to the standard output (`> page.html`)
   --dot       as a picture for graphviz: which definition calls and enters which, which returns
 
 Registers have the names of the ABI and the values at the entry of their definition, and with a
@@ -121,6 +121,8 @@ def main(arguments):
         elif words.html:
             title = ", ".join(filter(None, [os.path.basename(words.proof), words.function]))
             print("\n".join(page.page(title, groups, words.fold, beside)))
+            if sys.stdout.isatty():
+                print("mc show: that is a page for a browser: put `> page.html` behind the words", file=sys.stderr)
         else:
             print("\n\n\n".join("\n".join(group_text(group, words.fold, beside)) for group in groups))
     except Failure as bad:

@@ -97,7 +97,7 @@ class PassedOn(unittest.TestCase):
 
     def test_lines_and_status(self):
         self.assertEqual(self.say("decompile", "gcd.elf", "new.proof", "gcd"), (0, "decompiled gcd 0x11120 7 5\n", ""))
-        self.assertEqual(self.say("check", "a place/gcd.elf", "a place/new.proof", cwd=self.folder.name), (0, "accepted 1 113\n", ""))
+        self.assertEqual(self.say("check", "a place/gcd.elf", "a place/new.proof", cwd=self.folder.name), (0, "accepted 1 95\n", ""))
         with open(os.path.join(self.place, "new.proof"), "rb") as file:
             self.assertEqual(file.read(), (GCD / "gcd.proof").read_bytes())
 
@@ -143,7 +143,7 @@ class PassedOn(unittest.TestCase):
         copy = os.path.join(self.place, "the program")
         os.symlink(program.path(), copy)
         done = subprocess.run([link, "--program", "../a place/the program", "-v", "check", "gcd.elf", "gcd.proof"], capture_output=True, text=True, cwd=self.place)
-        self.assertEqual((done.returncode, done.stdout, done.stderr), (0, "accepted 1 113\n", f"mc: passed on: '{copy}' check gcd.elf gcd.proof\nmc: status 0\n"))
+        self.assertEqual((done.returncode, done.stdout, done.stderr), (0, "accepted 1 95\n", f"mc: passed on: '{copy}' check gcd.elf gcd.proof\nmc: status 0\n"))
 
     def test_an_open_file_as_out(self):
         with open(os.path.join(self.place, "o"), "wb") as file:

@@ -79,7 +79,7 @@ class WrongWords(unittest.TestCase):
         for given in ((), ("--foo", "f.elf"), ("--link", "--split", "f.elf"), ("--jobs", "0", "f.elf"), ("--jobs", "f.elf"), ("f.elf", "o", "more")):
             status, out, errors = samples.mc("functions", *given)
             self.assertEqual((status, out), (2, ""), given)
-            self.assertIn("usage: mc functions [--link | --split] [--jobs N] ELF [OUT]\n", errors)
+            self.assertIn("usage: mc functions [--link | --split] [--inside] [--jobs N] ELF [OUT]\n", errors)
 
     def test_out_is_the_file(self):
         with tempfile.TemporaryDirectory() as folder:
@@ -95,6 +95,12 @@ class WrongWords(unittest.TestCase):
             for name in ("gcd.elf", "other.elf"):
                 with open(os.path.join(folder, name), "rb") as file:
                     self.assertEqual(file.read(), (GCD / "gcd.elf").read_bytes())
+
+    def test_out_is_a_function(self):
+        found = functions.Functions(GCD / "gcd.elf")
+        with tempfile.TemporaryDirectory() as folder:
+            there = os.path.join(folder, "gcd")
+            self.assertEqual([functions.is_function_alone(out, found) for out in ("gcd", "./gcd", "gcd.proof", there, None)], [True] + 4 * [False])
 
 
 @unittest.skipUnless(program.find(), "no program is built")
@@ -115,6 +121,10 @@ class OfAProgram(unittest.TestCase):
         self.assertEqual(out, "0x11120  gcd                           7 instructions, 5 definitions\n\n1 functions, 1 decompiled, 0 refused\no.proof: accepted 1 113\n")
         with open(os.path.join(self.folder.name, "o.proof"), "rb") as file:
             self.assertEqual(file.read(), (GCD / "gcd.proof").read_bytes())
+
+    def test_inside(self):
+        _, out, _ = self.say("--inside", samples.EXAMPLES / "refused" / "lcm.elf")
+        self.assertTrue(out.startswith("0x11120  gcd                           7 instructions, 5 definitions\n\n2 functions, 1 decompiled, 1 refused\n"), out)
 
     def test_link_and_split(self):
         _, out, _ = self.say("--link", samples.EXAMPLES / "linked" / "lcm.elf")

@@ -11,9 +11,10 @@ use Rattle.rv_machine.specs.Touches.{IsTouched, touched}
 use Rattle.tailrec_lang.specs.Eval.{Arguments, Done, eval}
 use Rattle.claims.specs.Headline.{IsRight, Region, held_in, is_within}
 use Rattle.claims.specs.Exact.{Exact, FirstReturns, Gives}
+use Rattle.exactness.specs.Turns.{CountsSteps}
 use Rattle.headline_examples.specs.Sum.{needing, sum, sum_file, sum_results, sum_start}
 use Rattle.headline_examples.proofs.Paths.{IsPath, first-along}
-use Rattle.headline_examples.proofs.SumLemmas.{added, first-step, returned, second-step, starts, sum-ended}
+use Rattle.headline_examples.proofs.SumLemmas.{added, first-step, returned, second-step, starts, sum-ended, sum-starts}
 
 abbrev stands : ℕ → State
 stands zero = sum_start
@@ -54,6 +55,12 @@ sum-gives = record { exit = 0; pc = 0x2000; results = sum_results 5; left = 3; d
 
 pub sum-returned : (t : State) × FirstReturns [] sum_start 2 t × Gives sum [] sum_start 4 t
 sum-returned = (returned, sum-returns, sum-gives)
+
+-- the run is of two steps, and evaluation takes one turn
+pub more-than-one : CountsSteps 1 FirstReturns sum_file sum → ⊥
+more-than-one counts =
+    let one = (counts sum_start [] sum-starts 2 returned sum-returns 1 0 0x2000 0 (sum_results 5) refl).0 in
+    omega (arith, one)
 
 -- ---- a function that needs what isn't true
 

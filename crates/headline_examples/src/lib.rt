@@ -1,6 +1,7 @@
 //! Worked examples of the headline's definitions: its premises can be met, and it is false of a
 //! function that tells something else than its code does. Likewise of `Exact`, that nothing is
-//! lost. These functions do nothing: their contracts are the laws.
+//! lost, and of `CountsSteps`, that turns count steps. These functions do nothing: their contracts
+//! are the laws.
 #![tactic(auto)]
 
 ghost use Rattle.std.specs.Prelude.{◌≡◌, [], ◌∷◌};
@@ -10,6 +11,7 @@ ghost use Rattle.tailrec_lang.specs.Tree.{listed_def};
 ghost use Rattle.tailrec_lang.specs.Eval.{Done, eval};
 ghost use Rattle.claims.specs.Headline.{Ends, IsRight, Starts, held_in};
 ghost use Rattle.claims.specs.Exact.{Exact, FirstReturns, Gives};
+ghost use Rattle.exactness.specs.Turns.{CountsSteps};
 ghost use Rattle.headline_examples.specs.Sum.{narrow, needing, sum, sum_file, sum_results, sum_start, wrong};
 ghost use Rattle.headline_examples.specs.Store.{at_place, keeps, quiet, store_file, store_start, stores};
 
@@ -38,6 +40,11 @@ pub fn law_of_an_unlisted_register()
 /// asks of a run can be met, and so can what it says of it.
 pub fn law_of_a_return()
     ensures { (t : State) × FirstReturns [] sum_start 2 t × Gives sum [] sum_start 4 t }
+{}
+
+/// A turn of its evaluation is two steps of that run: it is false that each is at most one.
+pub fn law_of_a_turn()
+    ensures { CountsSteps 1 FirstReturns sum_file sum → ⊥ }
 {}
 
 /// A function that needs what is never true is right, since it gives nothing, but it isn't exact.

@@ -20,11 +20,11 @@ use Rattle.tailrec_lang.specs.Registers.{AreRegistersFrom}
 use Rattle.code_parts.specs.Graph.{HasPart, IsPart}
 use Rattle.path_walk.specs.inner.Histories.{exit_place, pc_of}
 use Rattle.code_parts.specs.Flows.{group_over}
-use Rattle.path_walk.specs.inner.Acts.{GoesOn, call_mems, call_words, exit_standing, exited, gives_over, numbered, results_at}
-use Rattle.path_walk.specs.inner.Writers.{FromAs, Grown, IsReady, WriterTree, Setting, CitedTree, StepsBy, Stood, group_in, past, standing_at, stating}
+use Rattle.path_walk.specs.inner.Acts.{Exited, GoesOn, LeftBy, call_mems, call_words, exit_standing, gives_over, numbered, results_at}
+use Rattle.path_walk.specs.inner.Writers.{FromAs, IsReady, WriterTree, Setting, CitedTree, StepsBy, Stood, group_in, past, standing_at, stating}
 use Rattle.path_walk.proofs.Calls as calls
 use Rattle.path_walk.proofs.Calls.{exit-fresh}
-use Rattle.path_walk.proofs.WriterLemmas.{from_on, grown_join, grown_state, held_now, ready_state}
+use Rattle.path_walk.proofs.WriterLemmas.{Ends, ends_restated, ends_state, from_on, grown_join, restated-version}
 use Rattle.path_walk.proofs.Joins.{some_and}
 use Rattle.path_walk.proofs.Lists.{current-fresh, zip-map}
 use Rattle.path_walk.proofs.JoinedLines.{goes-version, goes_on}
@@ -90,55 +90,61 @@ module _ (f : Flow) (ranges : List Range) (s : Setting f ranges) where
       abbrev l1 : WriterTree
       l1 = stating (UseExit d k) t0 l
 
-      abbrev l2 : WriterTree
-      l2 = stating (Inst l.next (call_words f x v) (call_mems f x v)) t1 l1
+      ends-used : Ends f ranges s l l1 l.next t0
+      ends-used = ends_state f ranges s (UseExit d k) t0 l ready (closed, record { def = callee; is = is; x = x; at = at; same = sym first-is })
 
-      m0 : Meets (group_in f ranges s) (past f ranges s l) (UseExit d k) t0
-      m0 = (closed, record { def = callee; is = is; x = x; at = at; same = sym first-is })
-
-      r1 : IsReady f ranges s l1
-      r1 = ready_state f ranges s (UseExit d k) t0 l ready m0
-
-      m1 : Meets (group_in f ranges s) (past f ranges s l1) (Inst l.next (call_words f x v) (call_mems f x v)) t1
-      m1 = some_and ((past f ranges s l1).theorem l.next) t0 (λ q. IsInst (put_for (call_words f x v) (call_mems f x v)) q t1) (held_now f ranges s (UseExit d k) t0 l ready) (put-is v)
-
-      grown-exited : Grown f ranges s l l2
-      grown-exited = grown_join f ranges s l l1 l2 (grown_state f ranges s (UseExit d k) t0 l ready m0) (grown_state f ranges s (Inst l.next (call_words f x v) (call_mems f x v)) t1 l1 r1 m1)
+      ends-exited : (new : WriterTree) (j : ℕ) → Exited f ranges callee.entry d k x v l new j → Ends f ranges s l new j t1
+      ends-exited new j lines =
+          let meets : Meets (group_in f ranges s) (past f ranges s l1) (Inst l.next (call_words f x v) (call_mems f x v)) t1 =
+          some_and ((past f ranges s l1).theorem l.next) t0 (λ q. IsInst (put_for (call_words f x v) (call_mems f x v)) q t1) ends-used.held (put-is v) in
+          ends_restated f ranges s l l1 new l.next j (Inst l.next (call_words f x v) (call_mems f x v)) t0 t1 ends-used meets lines
 
       pub exit_stood : (entry : ℕ) (new : WriterTree) (path : List FactTree) (from : Option CitedTree) (t : CitedTree) → FromAs f entry ranges (past f ranges s l) (Const callee.entry) v path from →
-          GoesOn f entry from (exit_standing f ranges d k x v l) (pc_of x v.words) (exit_place f x v.words v.mems) (exited f ranges callee.entry d k x v l) new t →
+          LeftBy f entry ranges callee.entry d k x v from l new t →
           Stood f entry ranges s l new (pc_of x v.words) (exit_place f x v.words v.mems) (path ++ Gives d k (current f v) (results_at f x v.words v.mems) ∷ []) t
-      exit_stood entry new path from t here on =
+      exit_stood entry new path from t here left =
+          let ends = ends-exited left.mid left.number left.exited in
           let news : List FactTree = Gives d k (current f v) (results_at f x v.words v.mems) ∷ [] in
-          let end = goes_on f ranges s entry l2 new (Const callee.entry) v path (path ++ news) from (exit_standing f ranges d k x v l) t (pc_of x v.words) (exit_place f x v.words v.mems)
-          grown-exited.ready (from_on f ranges s entry l l2 (Const callee.entry) v path from grown-exited here) (held_now f ranges s (Inst l.next (call_words f x v) (call_mems f x v)) t1 l1 r1) (λ a b e. e)
-          (record { each = λ y c. Contains-append_right path news y c }) (record { each = λ y c. Contains-append_left path news y c }) on in
-          record { grown = grown_join f ranges s l l2 new grown-exited end.grown; cited = end.cited; stands = end.stands }
+          let end = goes_on f ranges s entry left.mid new (Const callee.entry) v path (path ++ news) from (exit_standing f ranges d k x v left.number) t (pc_of x v.words) (exit_place f x v.words v.mems)
+          ends.grown.ready (from_on f ranges s entry l left.mid (Const callee.entry) v path from ends.grown here) ends.held (λ a b e. e)
+          (record { each = λ y c. Contains-append_right path news y c }) (record { each = λ y c. Contains-append_left path news y c }) left.on in
+          record { grown = grown_join f ranges s l left.mid new ends.grown end.grown; cited = end.cited ∙ ends.cited; stands = end.stands }
+
+-- the text stays of its version
+pub left-version : (f : Flow) (entry : ℕ) (ranges : List Range) (called d k : ℕ) (x : Exit) (v : VariableMap) (from : Option CitedTree) (old new : WriterTree) (t : CitedTree) → LeftBy f entry ranges called d k x v from old new t → new.version ≡ old.version
+left-version f entry ranges called d k x v from old new t left =
+    goes-version f entry from (exit_standing f ranges d k x v left.number) t (pc_of x v.words) (exit_place f x v.words v.mems) left.mid new left.on ∙ restated-version _ _ _ _ _ _ _ left.exited
 
 -- they are steps to there, where the part has that exit
 pub exit_steps : (f : Flow) (ranges : List Range) (q : Part) (k : ℕ) (x : Exit) (entry : ℕ) (v : VariableMap) (old new : WriterTree) (from : Option CitedTree) (t : CitedTree) →
-    IsPart f q → slice_get (exits_of f q) k ≡ Some x →
-    GoesOn f entry from (exit_standing f ranges (f.number q) k x v old) (pc_of x v.words) (exit_place f x v.words v.mems) (exited f ranges (f.addr (first f q)) (f.number q) k x v old) new t →
+    IsPart f q → slice_get (exits_of f q) k ≡ Some x → LeftBy f entry ranges (f.addr (first f q)) (f.number q) k x v from old new t →
     StepsBy f entry ranges (f.number q) old new (Const (f.addr (first f q))) v from (pc_of x v.words) (exit_place f x v.words v.mems)
     (Gives (f.number q) k (current f v) (results_at f x v.words v.mems) ∷ []) t
-exit_steps f ranges q k x entry v old new from t part at on = record {
-  version = goes-version f entry from (exit_standing f ranges (f.number q) k x v old) t (pc_of x v.words) (exit_place f x v.words v.mems) (exited f ranges (f.addr (first f q)) (f.number q) k x v old) new on;
+exit_steps f ranges q k x entry v old new from t part at left = record {
+  version = left-version f entry ranges (f.addr (first f q)) (f.number q) k x v from old new t left;
   each = λ s path ready closed low here.
       let has : HasPart f (group_over f s.name ranges s.defs) q = s.has q part low in
       exit_stood f ranges s (f.number q) k has.def x has.is (ap (λ (xs : List Exit). slice_get xs k) has.exits ∙ at) v old ready closed entry new path from t
       (subst (λ (a : ℕ). FromAs f entry ranges (past f ranges s old) (Const a) v path from) (sym has.entry) here)
-      (subst (λ (a : ℕ). GoesOn f entry from (exit_standing f ranges (f.number q) k x v old) (pc_of x v.words) (exit_place f x v.words v.mems) (exited f ranges a (f.number q) k x v old) new t) (sym has.entry) on);
+      (subst (λ (a : ℕ). LeftBy f entry ranges a (f.number q) k x v from old new t) (sym has.entry) left);
 }
 
 -- .. as they were made
-pub exit_made : (f : Flow) (ranges : List Range) (q : Part) (k : ℕ) (x : Exit) (entry : ℕ) (v : VariableMap) (old mid new : WriterTree) (from : Option CitedTree) (last t : CitedTree) (pc : WordTree) (u : VariableMap) (d a : ℕ) →
-    IsPart f q → slice_get (exits_of f q) k ≡ Some x → d ≡ f.number q → a ≡ f.addr (first f q) → last ≡ exit_standing f ranges d k x v old → mid ≡ exited f ranges a d k x v old →
+pub left_made : (f : Flow) (ranges : List Range) (called d k : ℕ) (x : Exit) (entry : ℕ) (v : VariableMap) (old mid new : WriterTree) (j : ℕ) (from : Option CitedTree) (last t : CitedTree) (pc : WordTree) (u : VariableMap) →
+    last ≡ exit_standing f ranges d k x v j → Exited f ranges called d k x v old mid j → pc ≡ pc_of x v.words → u ≡ exit_place f x v.words v.mems → GoesOn f entry from last pc u mid new t → LeftBy f entry ranges called d k x v from old new t
+left_made f ranges called d k x entry v old mid new j from last t pc u last_is lines pc_is u_is on = record {
+  number = j;
+  mid = mid;
+  exited = lines;
+  on = subst (λ (y : CitedTree). GoesOn f entry from y (pc_of x v.words) (exit_place f x v.words v.mems) mid new t) last_is
+      (subst (λ (y : WordTree). GoesOn f entry from last y (exit_place f x v.words v.mems) mid new t) pc_is (subst (λ (y : VariableMap). GoesOn f entry from last pc y mid new t) u_is on));
+}
+
+pub exit_made : (f : Flow) (ranges : List Range) (q : Part) (k : ℕ) (x : Exit) (entry : ℕ) (v : VariableMap) (old mid new : WriterTree) (j : ℕ) (from : Option CitedTree) (last t : CitedTree) (pc : WordTree) (u : VariableMap) (d a : ℕ) →
+    IsPart f q → slice_get (exits_of f q) k ≡ Some x → d ≡ f.number q → a ≡ f.addr (first f q) → last ≡ exit_standing f ranges d k x v j → Exited f ranges a d k x v old mid j →
     pc ≡ pc_of x v.words → u ≡ exit_place f x v.words v.mems → GoesOn f entry from last pc u mid new t →
     StepsBy f entry ranges (f.number q) old new (Const (f.addr (first f q))) v from (pc_of x v.words) (exit_place f x v.words v.mems) (Gives (f.number q) k (current f v) (results_at f x v.words v.mems) ∷ []) t
-exit_made f ranges q k x entry v old mid new from last t pc u d a part at d_is a_is last_is mid_is pc_is u_is on =
-    let last_at : last ≡ exit_standing f ranges (f.number q) k x v old = last_is ∙ (λ i. exit_standing f ranges (d_is i) k x v old) in
-    let mid_at : mid ≡ exited f ranges (f.addr (first f q)) (f.number q) k x v old = mid_is ∙ (λ i. exited f ranges (a_is i) (d_is i) k x v old) in
+exit_made f ranges q k x entry v old mid new j from last t pc u d a part at d_is a_is last_is lines pc_is u_is on =
     exit_steps f ranges q k x entry v old new from t part at
-    (subst (λ (y : CitedTree). GoesOn f entry from y (pc_of x v.words) (exit_place f x v.words v.mems) (exited f ranges (f.addr (first f q)) (f.number q) k x v old) new t) last_at
-    (subst (λ (y : WordTree). GoesOn f entry from last y (exit_place f x v.words v.mems) (exited f ranges (f.addr (first f q)) (f.number q) k x v old) new t) pc_is
-    (subst (λ (y : VariableMap). GoesOn f entry from last pc y (exited f ranges (f.addr (first f q)) (f.number q) k x v old) new t) u_is (subst (λ (y : WriterTree). GoesOn f entry from last pc u y new t) mid_at on))))
+    (subst (λ (c : ℕ). LeftBy f entry ranges c (f.number q) k x v from old new t) a_is
+    (subst (λ (c : ℕ). LeftBy f entry ranges a c k x v from old new t) d_is (left_made f ranges a d k x entry v old mid new j from last t pc u last_is lines pc_is u_is on)))

@@ -26,12 +26,11 @@ use Rattle.code_parts.specs.Bodies.{Flow, VariableMap, size, action_body, action
 use Rattle.code_parts.specs.inner.Ends.{body_on}
 use Rattle.code_parts.proofs.Counts.{all-mems, all-words}
 use Rattle.checker.specs.Further.{further_of}
-use Rattle.path_walk.specs.inner.Acts.{Entered, GoesOn, exit_standing, new_facts, exited, results_at, steered_standing, steered}
+use Rattle.path_walk.specs.inner.Acts.{Entered, Exited, GoesOn, LeftBy, exit_standing, new_facts, results_at, steered_standing, steered}
 use Rattle.path_walk.specs.inner.Writers.{FromAs, IsReady, Leads, Led, WriterTree, Setting, CitedTree, StandsAs, Steps, Stood, group_in, past, standing_at}
 use Rattle.path_walk.proofs.CalledDefs.{below_steps, closed_more, closed_steps}
-use Rattle.path_walk.proofs.CallLemmas.{exit_stood, results_are}
+use Rattle.path_walk.proofs.CallLemmas.{exit_stood, left-version, left_made, results_are}
 use Rattle.path_walk.proofs.Facts.{all-facts, facts_after, leaves-steps}
-use Rattle.path_walk.proofs.JoinedLines.{goes-version}
 use Rattle.path_walk.proofs.Joins.{some_and}
 use Rattle.path_walk.proofs.LeafCitations.{led_after, led_none}
 use Rattle.path_walk.proofs.WriterLemmas.{grown_add, grown_join, held_add}
@@ -79,11 +78,11 @@ module _ (f : Flow) (p : Part) (ranges : List Range) where
 
   -- a function that returns: its exit, then the return to the address behind the call, and then the way from there on
   pub returned_leads : (n : ℕ) (c : Callee) → n < f.nodes → f.callee n ≡ Some c → c.returns ≡ true → (back : ℕ) (u : VariableMap) (from : Option CitedTree) (t : CitedTree) (old mid new : WriterTree) (body : BodyTree) →
-      GoesOn f (part_def f p).entry from (exit_standing f ranges c.def 0 Ret u old) (Var u.words) (back_at u) (exited f ranges c.entry c.def 0 Ret u old) mid t →
+      LeftBy f (part_def f p).entry ranges c.entry c.def 0 Ret u from old mid t →
       Leads f p ranges (steered f (part_def f p).entry (Var u.words) back (back_at u) t mid) new (Const back) (back_at u) (Some (steered_standing (Var u.words) back t mid)) body →
       Leads f p ranges old new (Const c.entry) u from (Call c.def (current f u) (Arm (Do (Need (Compare Eq (Var u.words) (Const back))) body) NoArm))
   returned_leads n c node calls returns back u from t old mid new body on rest = record {
-    version = rest.version ∙ goes-version f (part_def f p).entry from (exit_standing f ranges c.def 0 Ret u old) t (Var u.words) (back_at u) (exited f ranges c.entry c.def 0 Ret u old) mid on;
+    version = rest.version ∙ left-version f (part_def f p).entry ranges c.entry c.def 0 Ret u from old mid t on;
     each = λ s path ready here closed below.
         let g : GroupTree = group_in f ranges s in
         let entry : ℕ = (part_def f p).entry in
@@ -91,7 +90,7 @@ module _ (f : Flow) (p : Part) (ranges : List Range) where
         let exits : has.def.exits ≡ Ret ∷ [] = has.exits ∙ (λ i. cond (returns i) (Ret ∷ []) []) in
         let stood = exit_stood f ranges s c.def 0 has.def Ret has.is (ap (λ (xs : List Exit). slice_get xs 0) exits) u old ready closed.0 entry mid path from t
         (subst (λ (a : ℕ). FromAs f entry ranges (past f ranges s old) (Const a) u path from) (sym has.entry) here)
-        (subst (λ (a : ℕ). GoesOn f entry from (exit_standing f ranges c.def 0 Ret u old) (Var u.words) (back_at u) (exited f ranges a c.def 0 Ret u old) mid t) (sym has.entry) on) in
+        (subst (λ (a : ℕ). LeftBy f entry ranges a c.def 0 Ret u from old mid t) (sym has.entry) on) in
         let ways : List FactTree = path ++ Gives c.def 0 (current f u) (results_at f Ret u.words u.mems) ∷ [] in
         let turned = steer_stood f ranges s entry n c node calls (Var u.words) back (back_at u) mid ways t stood.grown.ready stood.stands in
         let last : WriterTree = steered f entry (Var u.words) back (back_at u) t mid in
@@ -116,7 +115,7 @@ module _ (f : Flow) (p : Part) (ranges : List Range) where
 
   -- the body of a call of a function
   pub entered_leads : (n : ℕ) (c : Callee) → n < f.nodes → f.callee n ≡ Some c → (back : ℕ) (u : VariableMap) (from : Option CitedTree) (t : CitedTree) (old mid new : WriterTree) (go : VariableMap → BodyTree) →
-      (c.returns ≡ true → GoesOn f (part_def f p).entry from (exit_standing f ranges c.def 0 Ret u old) (Var u.words) (back_at u) (exited f ranges c.entry c.def 0 Ret u old) mid t
+      (c.returns ≡ true → LeftBy f (part_def f p).entry ranges c.entry c.def 0 Ret u from old mid t
       × Leads f p ranges (steered f (part_def f p).entry (Var u.words) back (back_at u) t mid) new (Const back) (back_at u) (Some (steered_standing (Var u.words) back t mid)) (go (back_at u))) →
       (c.returns ≡ false → new ≡ old) → Leads f p ranges old new (Const c.entry) u from (Call c.def (current f u) (return_arm f c.returns back u go))
   entered_leads n c node calls back u from t old mid new go one none = by c.returns refl
@@ -134,8 +133,7 @@ module _ (f : Flow) (p : Part) (ranges : List Range) where
   pub entering_leads : (n room : ℕ) (c : Callee) (v : VariableMap) (from : Option CitedTree) (t t1 : CitedTree) (old mid last new : WriterTree) → n < f.nodes → f.callee n ≡ Some c →
       Steps f (part_def f p).entry ranges old mid (Const (f.addr n)) v from (pc_after (f.instr n) Next (f.addr n) (size f n) (names v (f.uses n))) (place_after (f.instr n) (f.uses n) v)
       (map So (conditions (f.instr n) Next (names v (f.uses n))) ++ new_facts (f.instr n) (f.addr n) (size f n) (f.uses n) v) t →
-      (c.returns ≡ true → GoesOn f (part_def f p).entry (Some t) (exit_standing f ranges c.def 0 Ret (place_after (f.instr n) (f.uses n) v) mid) (Var (place_after (f.instr n) (f.uses n) v).words) (back_at (place_after (f.instr n) (f.uses n) v))
-      (exited f ranges c.entry c.def 0 Ret (place_after (f.instr n) (f.uses n) v) mid) last t1
+      (c.returns ≡ true → LeftBy f (part_def f p).entry ranges c.entry c.def 0 Ret (place_after (f.instr n) (f.uses n) v) (Some t) mid last t1
       × Leads f p ranges (steered f (part_def f p).entry (Var (place_after (f.instr n) (f.uses n) v).words) (f.addr (f.to n Next)) (back_at (place_after (f.instr n) (f.uses n) v)) t1 last) new
       (Const (f.addr (f.to n Next))) (back_at (place_after (f.instr n) (f.uses n) v)) (Some (steered_standing (Var (place_after (f.instr n) (f.uses n) v).words) (f.addr (f.to n Next)) t1 last))
       (body_on room f p (f.to n Next) (back_at (place_after (f.instr n) (f.uses n) v)))) →
@@ -250,18 +248,16 @@ module _ (f : Flow) (p : Part) (ranges : List Range) where
 -- the text stays of its version
 pub entered-version : (f : Flow) (entry : ℕ) (ranges : List Range) (called d back : ℕ) (u : VariableMap) (from : Option CitedTree) (old new : WriterTree) (t : CitedTree) → Entered f entry ranges called d back u from old new t → new.version ≡ old.version
 entered-version f entry ranges called d back u from old new t way =
-    ap (λ (l : WriterTree). l.version) way.log ∙ goes-version f entry from (exit_standing f ranges d 0 Ret u old) way.last (Var u.words) (fresh f (suc u.words) u.mems) (exited f ranges called d 0 Ret u old) way.mid way.on
+    ap (λ (l : WriterTree). l.version) way.log ∙ left-version f entry ranges called d 0 Ret u from old way.mid way.last way.on
 
 -- the lines as they were made
-pub entered_made : (f : Flow) (entry : ℕ) (ranges : List Range) (called d back : ℕ) (u w : VariableMap) (from : Option CitedTree) (old left mid new : WriterTree) (exit last t : CitedTree) →
-    exit ≡ exit_standing f ranges d 0 Ret u old → left ≡ exited f ranges called d 0 Ret u old → w ≡ fresh f (suc u.words) u.mems → GoesOn f entry from exit (Var u.words) w left mid last →
+pub entered_made : (f : Flow) (entry : ℕ) (ranges : List Range) (called d back : ℕ) (u w : VariableMap) (from : Option CitedTree) (old left mid new : WriterTree) (j : ℕ) (exit last t : CitedTree) →
+    exit ≡ exit_standing f ranges d 0 Ret u j → Exited f ranges called d 0 Ret u old left j → w ≡ fresh f (suc u.words) u.mems → GoesOn f entry from exit (Var u.words) w left mid last →
     new ≡ steered f entry (Var u.words) back w last mid → t ≡ steered_standing (Var u.words) back last mid → Entered f entry ranges called d back u from old new t
-entered_made f entry ranges called d back u w from old left mid new exit last t exit_is left_is w_is on new_is t_is = record {
+entered_made f entry ranges called d back u w from old left mid new j exit last t exit_is lines w_is on new_is t_is = record {
   mid = mid;
   last = last;
-  on = subst (λ (x : CitedTree). GoesOn f entry from x (Var u.words) (fresh f (suc u.words) u.mems) (exited f ranges called d 0 Ret u old) mid last) exit_is
-      (subst (λ (l : WriterTree). GoesOn f entry from exit (Var u.words) (fresh f (suc u.words) u.mems) l mid last) left_is
-      (subst (λ (x : VariableMap). GoesOn f entry from exit (Var u.words) x left mid last) w_is on));
+  on = left_made f ranges called d 0 Ret entry u old left mid j from exit last (Var u.words) w exit_is lines refl w_is on;
   log = new_is ∙ (λ i. steered f entry (Var u.words) back (w_is i) last mid);
   theorem = t_is;
 }

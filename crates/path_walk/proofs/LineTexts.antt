@@ -27,7 +27,7 @@ use Rattle.tailrec_lang.specs.Registers.{AreRegistersFrom}
 use Rattle.group_text.specs.Limits.{IsExit, IsValues}
 use Rattle.proof_text.specs.LineLimits.{AreRisingFrom, IsAssertion, IsFact, IsTriple}
 use Rattle.code_parts.specs.Bodies.{Flow, VariableMap, current, fresh, is_store, names, place_after, start}
-use Rattle.path_walk.specs.inner.Acts.{IsFineInstruction, IsFineExit, all_mems, gives_over, mem_after, mem_first, named_triple, new_facts, numbered, results_at, triple_on}
+use Rattle.path_walk.specs.inner.Acts.{IsFineInstruction, IsFineExit, all_mems, gives_over, mem_first, named_triple, new_facts, numbered, own_mem, results_at}
 use Rattle.path_walk.specs.inner.Histories.{exit_place, pc_of}
 use Rattle.path_walk.specs.inner.Writers.{IsFineCited, CitedTree, standing_at}
 use Rattle.path_walk.proofs.Joins.{or-within, some-same}
@@ -150,13 +150,6 @@ module _ (mem_count : ℕ) (v : VariableMap) (n : ℕ) (low : IsLow mem_count v 
         go true is = memory_after-small mem_count v n low few q i is has
         go false is = subst IsMem (sym (memory-same i (names v q) is)) (memory-fine q lt)
 
-    mem_after-fine : (p : ℕ) → p < mem_count → IsMem (mem_after i q v p)
-    mem_after-fine p lt = go (eqb p q) refl
-      where
-        go : (b : Bool) → eqb p q ≡ b → IsMem (cond b (memory_after i (names v q)) (MemVar (v.memory p)))
-        go true is = memory_after-fine (subst (λ (k : ℕ). k < mem_count) (eqb-true p q is) lt)
-        go false is = memory-fine p lt
-
     so-fine : (form : Form) → AllByRecursion IsFact (map So (conditions i form (names v q)))
     so-fine form = go (conditions i form (names v q)) (conditions-small mem_count v n low few q i form has)
       where
@@ -246,38 +239,37 @@ module _ (i : Instr) (form : Form) (a w : ℕ) (low_address : a < 2 ^ 64) (room 
   }) (omega arith) 0 (λ e. omega arith)
 
   module _ (f : Flow) (rise : AreRegistersFrom 1 f.regs) (v : VariableMap) (n : ℕ) (low : IsLow f.mems v n) (few : n ≤ 2 ^ 15) (q : ℕ) (has : has_memory i ≡ true → q < f.mems) where
-    -- over all registers and memories, in any order
-    wide-fine : (ms : List ℕ) → ((p : ℕ) → Contains ms p → p < f.mems) → IsTriple (triple_on i form a (length_of w) (word_code a w) f.regs ms q v)
-    wide-fine ms among = record {
-      facts = so-fine f.mems v n low (omega (arith, few)) q i has form;
-      pre = assertion-fine (Const a) (λ r. Var (v.reg r)) f.regs (map (λ p. MemVar (v.memory p)) ms) low_address rise (named-fine f.mems v n low (omega (arith, few)))
-          (these-fine (λ p. MemVar (v.memory p)) ms (λ p c. memory-fine f.mems v n low (omega (arith, few)) p (among p c)));
-      code = word_code-ranges a w room;
-      bytes = code-bytes a w;
-      post = assertion-fine (pc_after i form a (length_of w) (names v q)) (word_after i a (length_of w) (names v q)) f.regs (map (mem_after i q v) ms)
-          (pc-fine f.mems v n low (omega (arith, few)) q i form a (length_of w)) rise (after-fine f.mems v n low (omega (arith, few)) q i has a (length_of w))
-          (these-fine (mem_after i q v) ms (λ p c. mem_after-fine f.mems v n low (omega (arith, few)) q i has p (among p c)));
-    }
-
-    named-triple-fine : IsTriple (named_triple i form a (length_of w) (word_code a w) f.regs (all_mems f.mems) q v)
-    named-triple-fine =
+    -- with new variables, over any registers and memories, in any order
+    named-fine-over : (regs ms : List ℕ) → AreRegistersFrom 1 regs → ((p : ℕ) → Contains ms p → p < f.mems) → IsTriple (named_triple i form a (length_of w) (word_code a w) regs ms q v)
+    named-fine-over regs ms order among =
         let next = place-low f.mems v n low (omega (arith, few)) i q in
         record {
           facts = facts-fine f.mems v n low (omega (arith, few)) q i has form a (length_of w);
-          pre = standing-fine f.mems v n low (omega (arith, few)) f (Const a) refl rise low_address;
+          pre = assertion-fine (Const a) (λ r. Var (v.reg r)) regs (map (λ p. MemVar (v.memory p)) ms) low_address order (named-fine f.mems v n low (omega (arith, few)))
+              (these-fine (λ p. MemVar (v.memory p)) ms (λ p c. memory-fine f.mems v n low (omega (arith, few)) p (among p c)));
           code = word_code-ranges a w room;
           bytes = code-bytes a w;
-          post = standing-fine f.mems (place_after i q v) (suc n) next (omega (arith, few)) f (pc_after i form a (length_of w) (names v q)) refl rise (pc-fine f.mems v n low (omega (arith, few)) q i form a (length_of w));
+          post = assertion-fine (pc_after i form a (length_of w) (names v q)) (λ r. Var ((place_after i q v).reg r)) regs (map (λ p. MemVar ((place_after i q v).memory p)) ms)
+              (pc-fine f.mems v n low (omega (arith, few)) q i form a (length_of w)) order (named-fine f.mems (place_after i q v) (suc n) next (omega (arith, few)))
+              (these-fine (λ p. MemVar ((place_after i q v).memory p)) ms (λ p c. memory-fine f.mems (place_after i q v) (suc n) next (omega (arith, few)) p (among p c)));
         }
+
+    own-among : (p : ℕ) → Contains (own_mem i q) p → p < f.mems
+    own-among p = go (has_memory i) has
+      where
+        go : (b : Bool) → (b ≡ true → q < f.mems) → Contains (cond b (q ∷ []) []) p → p < f.mems
+        go false h c = absurd (omega (arith, c.1))
+        go true h (zero, lt, at) = subst (λ (k : ℕ). k < f.mems) at (h refl)
+        go true h (suc k, lt, at) = absurd (omega (arith, lt))
 
     pub act-fine : IsFineInstruction f i form a w q v
     act-fine = record {
       rule = λ k fits. (fits, words, mems (has_memory i) has);
       first = first-fine;
       current_over = over-fine f.mems v n low (omega (arith, few)) q has;
-      wide = wide-fine (mem_first i q f.mems) (first-among i q f.mems has);
-      in_order = wide-fine (all_mems f.mems) (all-among f.mems);
-      named = named-triple-fine;
+      named = named-fine-over (own i) (own_mem i q) (own-rise i) own-among;
+      wide = named-fine-over f.regs (mem_first i q f.mems) rise (first-among i q f.mems has);
+      in_order = named-fine-over f.regs (all_mems f.mems) rise (all-among f.mems);
     }
       where
         words : AreRisingFrom IsWord 0 (numbered 0 (map (λ r. Var (v.reg r)) (own i)))

@@ -1,4 +1,4 @@
--- The triples of one instruction: its axiom, over the current variables, over all registers and memories, and with new variables.
+-- The triples of one instruction: its axiom, over the current variables, with new variables, and over all registers and memories.
 use Rattle.std.proofs.Common.{◌≡◌, ℕ, zero, suc, ◌+◌, ◌^◌, ◌≤◌, leb, List, [], ◌∷◌, ◌++◌, map, length, drop, filter, Bool, true, false, cond, not, eqb, ◌||◌, ◌<◌, ◌⊎◌, ◌&&◌, refl, sym, ap, ◌∙◌, subst, arith, Some, None, inl, inr, Contains, eqb-true, eq-eqb, ne_eqb}
 use Rattle.std.specs.List.{AllZip, range_with_len, position_or_len}
 use Rattle.std.specs.Option.{option_and_then}
@@ -24,10 +24,10 @@ use Rattle.rv_decode.specs.Registers.{is_read, registers_where, sources, destina
 use Rattle.instr_axioms.specs.Terms.{Names, has_memory, conditions, result, word_after, memory_after, pc_after, has_form}
 use Rattle.instr_axioms.specs.Axiom.{register_with, memory_if, triple_over, is_own, own, variables_for, own_triple, triple_if, axiom_of, word_code}
 use Rattle.instr_axioms.proofs.Instances.{Becomes, is_inst}
-use Rattle.code_parts.specs.Bodies.{VariableMap, names, is_store, wrote, stored, place_after}
+use Rattle.code_parts.specs.Bodies.{Flow, VariableMap, names, is_store, wrote, stored, place_after}
 use Rattle.further_rules.specs.Rules.{AreExchanged, IsExchanged}
 use Rattle.path_walk.specs.Further.{is_crossed}
-use Rattle.path_walk.specs.inner.Acts.{all_mems, mem_after, mem_first, named_triple, new_facts, own_mem, own_mems, own_words, triple_on}
+use Rattle.path_walk.specs.inner.Acts.{all_mems, mem_after, mem_first, named_own, named_triple, named_wide, new_facts, own_mem, own_mems, own_words, triple_on}
 use Rattle.code_parts.proofs.Lists.{here, later, in_range, is_in, in-true}
 use Rattle.path_walk.proofs.Lists.{smaller-is, listed-place}
 use Rattle.path_walk.specs.inner.Acts.{numbered}
@@ -122,18 +122,43 @@ apart-mem i q v p true is (inr none) =
     ap (λ x. MemVar (v.memory x)) (eqb-true p q is) ∙ sym (memory-same i (names v q) none) ∙ (λ j. cond (sym is j) (memory_after i (names v q)) (MemVar (v.memory p)))
 apart-mem i q v p false is why = λ j. cond (sym is j) (memory_after i (names v q)) (MemVar (v.memory p))
 
-others-same : (i : Instr) (q : ℕ) (v : VariableMap) (ps : List ℕ) → map (λ p. MemVar (v.memory p)) (filter (λ p. not (eqb p q)) ps) ≡ map (mem_after i q v) (filter (λ p. not (eqb p q)) ps)
+-- .. and keeps its variable
+kept-memory : (i : Instr) (q : ℕ) (v : VariableMap) (p : ℕ) → (eqb p q ≡ false) ⊎ (is_store i ≡ false) → v.memory p ≡ (place_after i q v).memory p
+kept-memory i q v p why = go (is_store i) refl
+  where
+    written : (d : Bool) → (cond d v (record { words = suc v.words; mems = v.mems; reg = λ r. cond (eqb r (destination i)) v.words (v.reg r); memory = v.memory })).memory p ≡ v.memory p
+    written true = refl
+    written false = refl
+
+    other : is_store i ≡ true → (eqb p q ≡ false) ⊎ (is_store i ≡ false) → eqb p q ≡ false
+    other is (inl e) = e
+    other is (inr none) = absurd (cc)
+
+    go : (s : Bool) → is_store i ≡ s → v.memory p ≡ (cond s (stored q v) (wrote (destination i) v)).memory p
+    go true is = let apart = other is why in λ j. cond (sym apart j) v.mems (v.memory p)
+    go false is = sym (written (eqb (destination i) 0))
+
+others-same : (i : Instr) (q : ℕ) (v : VariableMap) (ps : List ℕ) → map (λ p. MemVar (v.memory p)) (filter (λ p. not (eqb p q)) ps) ≡ map (λ p. MemVar ((place_after i q v).memory p)) (filter (λ p. not (eqb p q)) ps)
 others-same i q v [] = refl
 others-same i q v (p ∷ ps) = go (eqb p q) refl (others-same i q v ps)
   where
-    go : (b : Bool) → eqb p q ≡ b → map (λ p. MemVar (v.memory p)) (filter (λ p. not (eqb p q)) ps) ≡ map (mem_after i q v) (filter (λ p. not (eqb p q)) ps) →
-        map (λ p. MemVar (v.memory p)) (cond (not b) (p ∷ filter (λ p. not (eqb p q)) ps) (filter (λ p. not (eqb p q)) ps)) ≡ map (mem_after i q v) (cond (not b) (p ∷ filter (λ p. not (eqb p q)) ps) (filter (λ p. not (eqb p q)) ps))
+    go : (b : Bool) → eqb p q ≡ b → map (λ p. MemVar (v.memory p)) (filter (λ p. not (eqb p q)) ps) ≡ map (λ p. MemVar ((place_after i q v).memory p)) (filter (λ p. not (eqb p q)) ps) →
+        map (λ p. MemVar (v.memory p)) (cond (not b) (p ∷ filter (λ p. not (eqb p q)) ps) (filter (λ p. not (eqb p q)) ps)) ≡ map (λ p. MemVar ((place_after i q v).memory p)) (cond (not b) (p ∷ filter (λ p. not (eqb p q)) ps) (filter (λ p. not (eqb p q)) ps))
     go true is rest = rest
-    go false is rest = let first = apart-mem i q v p false is (inl refl) in λ j. first j ∷ rest j
+    go false is rest = let first = kept-memory i q v p (inl is) in λ j. MemVar (first j) ∷ rest j
 
-all-same : (i : Instr) (q : ℕ) (v : VariableMap) (ps : List ℕ) → is_store i ≡ false → map (λ p. MemVar (v.memory p)) ps ≡ map (mem_after i q v) ps
+all-same : (i : Instr) (q : ℕ) (v : VariableMap) (ps : List ℕ) → is_store i ≡ false → map (λ p. MemVar (v.memory p)) ps ≡ map (λ p. MemVar ((place_after i q v).memory p)) ps
 all-same i q v [] none = refl
-all-same i q v (p ∷ ps) none = let first = apart-mem i q v p (eqb p q) refl (inr none) in let rest = all-same i q v ps none in λ j. first j ∷ rest j
+all-same i q v (p ∷ ps) none = let first = kept-memory i q v p (inr none) in let rest = all-same i q v ps none in λ j. MemVar (first j) ∷ rest j
+
+-- a register that isn't written keeps its variable
+kept-register : (i : Instr) (q : ℕ) (v : VariableMap) (r : ℕ) → eqb r (destination i) ≡ false → v.reg r ≡ (place_after i q v).reg r
+kept-register i q v r other = go (is_store i) (eqb (destination i) 0)
+  where
+    go : (s d : Bool) → v.reg r ≡ (cond s (stored q v) (cond d v (record { words = suc v.words; mems = v.mems; reg = λ x. cond (eqb x (destination i)) v.words (v.reg x); memory = v.memory }))).reg r
+    go true d = refl
+    go false true = refl
+    go false false = λ j. cond (sym other j) v.words (v.reg r)
 
 -- the memory after an instruction, and those that are further before it
 wider-mems : (h : Bool) (q : ℕ) (others all : List ℕ) (x y : ℕ → MemTree) → (h ≡ true → map x others ≡ map y others) → (h ≡ false → map x all ≡ map y all) →
@@ -192,19 +217,19 @@ exchanged-mems : (ms ns : List ℕ) (x : ℕ → MemTree) → ms ≡ 1 ∷ 0 ∷
 exchanged-mems ms ns x m n = subst (λ (zs : List ℕ). AreExchanged (map x zs) (map x ns)) (sym m) (subst (λ (zs : List ℕ). AreExchanged (x 1 ∷ x 0 ∷ []) (map x zs)) (sym n) refl)
 
 -- so they are exchanged
-pub is_exchanged : (i : Instr) (form : Form) (a k : ℕ) (code : List Range) (regs : List ℕ) (q mems : ℕ) (v : VariableMap) → (has_memory i ≡ true → q < mems) → mems ≡ 2 → is_crossed i q ≡ true →
-    IsExchanged (triple_on i form a k code regs (mem_first i q mems) q v) (triple_on i form a k code regs (all_mems mems) q v)
-is_exchanged i form a k code regs q mems v low two is =
-    let front = (crossed-second i q mems low two is).1 in
+pub is_exchanged : (f : Flow) (i : Instr) (form : Form) (a w q : ℕ) (v : VariableMap) → (has_memory i ≡ true → q < f.mems) → f.mems ≡ 2 → is_crossed i q ≡ true →
+    IsExchanged (named_wide f i form a w (mem_first i q f.mems) q v) (named_wide f i form a w (all_mems f.mems) q v)
+is_exchanged f i form a w q v low two is =
+    let front = (crossed-second i q f.mems low two is).1 in
     record {
       facts = refl;
       code = refl;
       pre_pc = refl;
       pre_regs = refl;
-      pre_mems = exchanged-mems (mem_first i q mems) (all_mems mems) (λ p. MemVar (v.memory p)) front (ap all_mems two);
+      pre_mems = exchanged-mems (mem_first i q f.mems) (all_mems f.mems) (λ p. MemVar (v.memory p)) front (ap all_mems two);
       post_pc = refl;
       post_regs = refl;
-      post_mems = exchanged-mems (mem_first i q mems) (all_mems mems) (mem_after i q v) front (ap all_mems two);
+      post_mems = exchanged-mems (mem_first i q f.mems) (all_mems f.mems) (λ p. MemVar ((place_after i q v).memory p)) front (ap all_mems two);
     }
 
 -- over its own registers, its memory is the one that it has
@@ -224,28 +249,22 @@ own-on i form a k code q v =
       post = record { pc = pc_after i form a k (names v q); regs = map (register_with (word_after i a k (names v q))) (own i); mems = after_mems j };
     }
 
--- over registers and over memories that are put in
-pub over-on : (i : Instr) (form : Form) (a k : ℕ) (code : List Range) (regs ms : List ℕ) (q : ℕ) (v : VariableMap) (t u : TripleTree) (before after : List MemTree) → t ≡ triple_over i form a k code regs false (names v q) →
-    u ≡ record { facts = t.facts; pre = record { pc = t.pre.pc; regs = t.pre.regs; mems = before }; code = t.code; post = record { pc = t.post.pc; regs = t.post.regs; mems = after } } →
-    before ≡ map (λ p. MemVar (v.memory p)) ms → after ≡ map (mem_after i q v) ms → u ≡ triple_on i form a k code regs ms q v
-over-on i form a k code regs ms q v t u before after is made front behind =
-    made
-    ∙ (λ j. record { facts = (is j).facts; pre = record { pc = (is j).pre.pc; regs = (is j).pre.regs; mems = front j }; code = (is j).code; post = record { pc = (is j).post.pc; regs = (is j).post.regs; mems = behind j } })
-
 -- ---- frame
 
-module _ (i : Instr) (form : Form) (a k : ℕ) (code : List Range) (regs : List ℕ) (mems q : ℕ) (rise : AreRegistersFrom 1 regs)
-    (within : (r : ℕ) → Contains (own i) r → Contains regs r) (v : VariableMap) where
-  abbrev n : Names
-  n = names v q
+module _ (f : Flow) (i : Instr) (form : Form) (a w q : ℕ) (rise : AreRegistersFrom 1 f.regs) (within : (r : ℕ) → Contains (own i) r → Contains f.regs r) (v : VariableMap) where
+  abbrev before : ℕ → WordTree
+  before r = Var (v.reg r)
 
-  own-wider : (w : ℕ → WordTree) → map (register_with w) (own i) ≡ those_listed (map (register_with w) (own i)) (map (register_with w) regs)
-  own-wider w =
-      sym (passing w w (λ r. is_listed (map (register_with w) (own i)) r) (is_in (own i)) regs (λ r c. any-map w (own i) r) (λ r c t. refl)
-      ∙ ap (map (register_with w)) (smaller-is 1 (own i) regs (own-rise i) rise within))
+  abbrev after : ℕ → WordTree
+  after r = Var ((place_after i q v).reg r)
 
-  apart : (r : ℕ) → Contains regs r → not (is_in (own i) r) ≡ true → n.word r ≡ word_after i a k n r
-  apart r c t = λ j. cond (sym other j) (result i a k n) (n.word r)
+  own-wider : (x : ℕ → WordTree) → map (register_with x) (own i) ≡ those_listed (map (register_with x) (own i)) (map (register_with x) f.regs)
+  own-wider x =
+      sym (passing x x (λ r. is_listed (map (register_with x) (own i)) r) (is_in (own i)) f.regs (λ r c. any-map x (own i) r) (λ r c t. refl)
+      ∙ ap (map (register_with x)) (smaller-is 1 (own i) f.regs (own-rise i) rise within))
+
+  apart : (r : ℕ) → Contains f.regs r → not (is_in (own i) r) ≡ true → before r ≡ after r
+  apart r c t = ap Var (kept-register i q v r other)
     where
       not_in : (b : Bool) → not b ≡ true → b ≡ false
       not_in true e = absurd (cc)
@@ -253,29 +272,26 @@ module _ (i : Instr) (form : Form) (a k : ℕ) (code : List Range) (regs : List 
 
       other : eqb r (destination i) ≡ false
       other = ne_eqb r (destination i) (λ e.
-          let range = in_range 1 regs r rise c in
+          let range = in_range 1 f.regs r rise c in
           let owned = own-has i r range.0 range.1 (or_left (eqb (destination i) r) (is_read i r) (eq-eqb (destination i) r (sym e))) in
           let yes_in = in-true (own i) r owned in
           let no_in = not_in (is_in (own i) r) t in
           let clash : true ≡ false = sym yes_in ∙ no_in in cc)
 
-  on_framed : IsFramed (triple_on i form a k code (own i) (own_mem i q) q v) (triple_on i form a k code regs (mem_first i q mems) q v)
-  on_framed = record {
+  pub is_framed : IsFramed (named_own i form a w q v) (named_wide f i form a w (mem_first i q f.mems) q v)
+  is_framed = record {
     facts = refl;
     code = refl;
     pre_pc = refl;
     post_pc = refl;
-    pre_regs = own-wider n.word;
-    post_regs = own-wider (word_after i a k n);
-    further_regs = passing n.word (word_after i a k n) (λ r. not (is_listed (map (register_with n.word) (own i)) r)) (λ r. not (is_in (own i) r)) regs (λ r c. ap not (any-map n.word (own i) r)) apart
-        ∙ sym (passing (word_after i a k n) (word_after i a k n) (λ r. not (is_listed (map (register_with (word_after i a k n)) (own i)) r)) (λ r. not (is_in (own i) r)) regs (λ r c. ap not (any-map (word_after i a k n) (own i) r)) (λ r c t. refl));
-    pre_mems = wider-mems (has_memory i) q (filter (λ p. not (eqb p q)) (all_mems mems)) (all_mems mems) (λ p. MemVar (v.memory p)) (λ p. MemVar (v.memory p)) (λ e. refl) (λ e. refl);
-    post_mems = wider-mems (has_memory i) q (filter (λ p. not (eqb p q)) (all_mems mems)) (all_mems mems) (λ p. MemVar (v.memory p)) (mem_after i q v)
-        (λ e. others-same i q v (all_mems mems)) (λ e. all-same i q v (all_mems mems) (store-has_memory i e));
+    pre_regs = own-wider before;
+    post_regs = own-wider after;
+    further_regs = passing before after (λ r. not (is_listed (map (register_with before) (own i)) r)) (λ r. not (is_in (own i) r)) f.regs (λ r c. ap not (any-map before (own i) r)) apart
+        ∙ sym (passing after after (λ r. not (is_listed (map (register_with after) (own i)) r)) (λ r. not (is_in (own i) r)) f.regs (λ r c. ap not (any-map after (own i) r)) (λ r c t. refl));
+    pre_mems = wider-mems (has_memory i) q (filter (λ p. not (eqb p q)) (all_mems f.mems)) (all_mems f.mems) (λ p. MemVar (v.memory p)) (λ p. MemVar (v.memory p)) (λ e. refl) (λ e. refl);
+    post_mems = wider-mems (has_memory i) q (filter (λ p. not (eqb p q)) (all_mems f.mems)) (all_mems f.mems) (λ p. MemVar (v.memory p)) (λ p. MemVar ((place_after i q v).memory p))
+        (λ e. others-same i q v (all_mems f.mems)) (λ e. all-same i q v (all_mems f.mems) (store-has_memory i e));
   }
-
-  pub is_framed : IsFramed (triple_over i form a k code (own i) (has_memory i) (names v q)) (triple_on i form a k code regs (mem_first i q mems) q v)
-  is_framed = subst (λ t. IsFramed t (triple_on i form a k code regs (mem_first i q mems) q v)) (sym (own-on i form a k code q v)) on_framed
 
 -- ---- inst
 
@@ -357,9 +373,9 @@ module _ (i : Instr) (a k m : ℕ) (v : VariableMap) (facts : List FactTree) (kn
       go true is more = store (eqb p m) more
       go false is more = stated-mem facts (mem_after i m v p) (MemVar ((wrote (destination i) v).memory p)) (inl (sym (apart-mem i m v p (eqb p m) refl (inr is)) ∙ ap MemVar (sym (kept (eqb (destination i) 0)))))
 
-pub is_weakened : (i : Instr) (form : Form) (a k : ℕ) (code : List Range) (regs ms : List ℕ) (m : ℕ) (v : VariableMap) → AreRegistersFrom 1 regs →
+on_weakened : (i : Instr) (form : Form) (a k : ℕ) (code : List Range) (regs ms : List ℕ) (m : ℕ) (v : VariableMap) → AreRegistersFrom 1 regs →
     IsWeakened (triple_on i form a k code regs ms m v) (named_triple i form a k code regs ms m v)
-is_weakened i form a k code regs ms m v rise =
+on_weakened i form a k code regs ms m v rise =
     let facts : List FactTree = map So (conditions i form (names v m)) ++ new_facts i a k m v in
     let known = λ (x : FactTree) (c : Contains (new_facts i a k m v) x). Contains-append_right (map So (conditions i form (names v m))) (new_facts i a k m v) x c in
     record {
@@ -372,3 +388,9 @@ is_weakened i form a k code regs ms m v rise =
         mems = swap-memories facts (mem_after i m v) (λ p. MemVar ((place_after i m v).memory p)) ms (new-memory i a k m v facts known);
       };
     }
+
+-- over its own registers and its own memory
+pub is_weakened : (i : Instr) (form : Form) (a w q : ℕ) (v : VariableMap) → IsWeakened (triple_over i form a (length_of w) (word_code a w) (own i) (has_memory i) (names v q)) (named_own i form a w q v)
+is_weakened i form a w q v =
+    subst (λ (t : TripleTree). IsWeakened t (named_own i form a w q v)) (sym (own-on i form a (length_of w) (word_code a w) q v))
+    (on_weakened i form a (length_of w) (word_code a w) (own i) (own_mem i q) q v (own-rise i))

@@ -1,5 +1,5 @@
 -- Lines that are added to a log.
-use Rattle.std.proofs.Common.{◌≡◌, ℕ, ◌+◌, List, [], ◌∷◌, ◌++◌, fold, refl, sym, ap, ◌∙◌, subst, Option, None, Some, append_assoc, append-nil}
+use Rattle.std.proofs.Common.{◌≡◌, ℕ, ◌+◌, List, [], ◌∷◌, ◌++◌, fold, refl, sym, ap, ◌∙◌, subst, Option, None, Some, inl, inr, append_assoc, append-nil}
 use Rattle.rv_words.specs.declared.range.Range.{Range}
 use Rattle.word_terms.specs.Tree.{WordTree}
 use Rattle.triple_kernel.specs.Tree.{FactTree, TripleTree}
@@ -8,7 +8,7 @@ use Rattle.checker.specs.Instance.{AreInstancesBy, History, InstanceBy, Meets, a
 use Rattle.code_parts.specs.Bodies.{Flow, VariableMap}
 use Rattle.path_walk.specs.inner.Histories.{IsCounted, Keeps}
 use Rattle.checker.specs.Further.{further_of}
-use Rattle.path_walk.specs.inner.Writers.{FromAs, Grown, IsReady, WriterTree, Setting, CitedTree, StandsAs, adding, group_in, past, stating}
+use Rattle.path_walk.specs.inner.Writers.{FromAs, Grown, IsReady, Restated, WriterTree, Setting, CitedTree, StandsAs, adding, group_in, past, stating}
 use Rattle.path_walk.proofs.RightLines.{Made, fold-join, held_last, joined, made_one}
 
 module _ (f : Flow) (ranges : List Range) (s : Setting f ranges) where
@@ -70,6 +70,26 @@ module _ (f : Flow) (ranges : List Range) (s : Setting f ranges) where
   pub held_now : (rule : RuleTree) (t : TripleTree) (a : WriterTree) → IsReady f ranges s a → (past f ranges s (stating rule t a)).theorem a.next ≡ Some t
   held_now rule t a ready = held_add (States rule t) t (λ h. refl) a ready
 
+  -- lines that were added end with a theorem that states this triple
+  pub record Ends (old new : WriterTree) (k : ℕ) (t : TripleTree) : Type 0 where
+    pub grown : Grown f ranges s old new
+    pub cited : new.cited ≡ old.cited
+    pub held : (past f ranges s new).theorem k ≡ Some t
+
+  pub ends_state : (rule : RuleTree) (t : TripleTree) (a : WriterTree) → IsReady f ranges s a → Meets (group_in f ranges s) (past f ranges s a) rule t → Ends a (stating rule t a) a.next t
+  ends_state rule t a ready meets = record { grown = grown_state rule t a ready meets; cited = refl; held = held_now rule t a ready }
+
+  -- .. after one line more, if it states another one
+  pub ends_restated : (old mid new : WriterTree) (held k : ℕ) (rule : RuleTree) (known t : TripleTree) → Ends old mid held known → Meets (group_in f ranges s) (past f ranges s mid) rule t → Restated held rule known t mid new k → Ends old new k t
+  ends_restated old mid new held k rule known t ends meets (inl is) =
+      subst (λ (l : WriterTree). Ends old l k t) (sym is.1) (record { grown = ends.grown; cited = ends.cited; held = ap (past f ranges s mid).theorem is.2 ∙ ends.held ∙ ap Some is.0 })
+  ends_restated old mid new held k rule known t ends meets (inr is) =
+      subst (λ (l : WriterTree). Ends old l k t) (sym is.0) (record {
+        grown = grown_join old mid (stating rule t mid) ends.grown (grown_state rule t mid ends.grown.ready meets);
+        cited = ends.cited;
+        held = ap (past f ranges s (stating rule t mid)).theorem is.1 ∙ held_now rule t mid ends.grown.ready;
+      })
+
   -- what stands goes on to do so
   pub stands_on : (entry : ℕ) (a b : WriterTree) (pc : WordTree) (v : VariableMap) (path : List FactTree) (t : CitedTree) → Grown f ranges s a b → StandsAs f entry ranges (past f ranges s a) pc v path t →
       StandsAs f entry ranges (past f ranges s b) pc v path t
@@ -79,3 +99,16 @@ module _ (f : Flow) (ranges : List Range) (s : Setting f ranges) where
       FromAs f entry ranges (past f ranges s a) pc v path from → FromAs f entry ranges (past f ranges s b) pc v path from
   from_on entry a b pc v path None m here = here
   from_on entry a b pc v path (Some t) m here = stands_on entry a b pc v path t m here
+
+-- the text stays of its version
+pub restated-version : (held : ℕ) (rule : RuleTree) (known t : TripleTree) (old new : WriterTree) (k : ℕ) → Restated held rule known t old new k → new.version ≡ old.version
+restated-version held rule known t old new k (inl is) = ap (λ (l : WriterTree). l.version) is.1
+restated-version held rule known t old new k (inr is) = ap (λ (l : WriterTree). l.version) is.0
+
+-- such a line, where all that it speaks of is this
+pub restated_of : (held j : ℕ) (rule r : RuleTree) (known a t u : TripleTree) (old mid new : WriterTree) (k : ℕ) → held ≡ j → rule ≡ r → known ≡ a → t ≡ u → old ≡ mid → Restated held rule known t old new k → Restated j r a u mid new k
+restated_of held j rule r known a t u old mid new k held_is rule_is known_is t_is old_is is =
+    subst (λ (x : ℕ). Restated x r a u mid new k) held_is
+    (subst (λ (x : RuleTree). Restated held x a u mid new k) rule_is
+    (subst (λ (x : TripleTree). Restated held rule x u mid new k) known_is
+    (subst (λ (x : TripleTree). Restated held rule known x mid new k) t_is (subst (λ (x : WriterTree). Restated held rule known t x new k) old_is is))))

@@ -1,20 +1,19 @@
 //! The lines of one exit of a call.
 
-ghost use Rattle.std.specs.Prelude.{◌≡◌, ◌∷◌, [], ◌+◌, ◌<◌, ◌^◌, IfOk, OnOk, Some, map, option_copied, option_map, slice_get};
+ghost use Rattle.std.specs.Prelude.{◌≡◌, ◌∷◌, [], ◌+◌, ◌<◌, ◌^◌, IfOk, Some, map, option_copied, option_map, slice_get};
 ghost use Rattle.rv_words.specs.Ranges.{range_bytes};
 ghost use Rattle.word_terms.specs.Tree.{Const, word_tree};
 ghost use Rattle.sep_assert.specs.Code.{IsWithin};
 ghost use Rattle.tailrec_lang.specs.Tree.{values_tree};
 ghost use Rattle.triple_kernel.specs.Tree.{Gives, fact_tree, triple_tree};
-ghost use Rattle.proof_text.specs.Line.{Inst};
-ghost use Rattle.proof_text.specs.LineLimits.{IsRule, IsTriple};
+ghost use Rattle.proof_text.specs.Line.{mem_put_in, word_put_in};
 ghost use Rattle.group_text.specs.Limits.{IsExit};
 ghost use Rattle.code_parts.specs.Bodies as bodies;
 ghost use Rattle.code_parts.specs.Graph.{IsPart};
 ghost use Rattle.path_walk.specs.inner.Acts as spec;
 ghost use Rattle.path_walk.specs.inner.Histories.{exit_place, pc_of};
 ghost use Rattle.code_parts.specs.Kept.{flow_in};
-ghost use Rattle.path_walk.specs.inner.Writers.{IsOver, StepsBy, writer_tree, cited_tree, stating};
+ghost use Rattle.path_walk.specs.inner.Writers.{IsOver, StepsBy, writer_tree, cited_tree};
 ghost use Rattle.code_parts.specs.VariableMaps.{place_of};
 
 use crate::compose::{go_on, standing_at};
@@ -111,38 +110,42 @@ fn gives_over(
     })
 }
 
-/// States the triple of an exit over the current variables, where it was stated over the
-/// parameters.
-fn put_current(
-    alloc: Global,
-    flow: &Flow<'_>,
-    first: u64,
-    x: Exit,
-    place: &VariableMap,
-    triple: Triple,
-    log: &mut ProofWriter,
-) -> Result<u64, NoMemory>
+/// The variables that are put in for an exit's: the current ones for the parameters, and the next
+/// ones for the results.
+fn call_sub(alloc: Global, flow: &Flow<'_>, x: Exit, place: &VariableMap) -> Result<Sub, NoMemory>
     requires words { place.now.words < 2 ^ 15 + 64 }
     requires mems { place.now.mems < 2 ^ 15 + 64 }
-    requires rule { IsRule (Inst first (spec.call_words (flow_in flow.now) x (place_of place.now))
-        (spec.call_mems (flow_in flow.now) x (place_of place.now))) }
-    requires stated { IsTriple (triple_tree triple) }
-    ensures number { IfOk result (λ k. k ≡ log.old.next) }
-    ensures fits { IfOk result (λ k. k < 2 ^ 64) }
-    ensures log { OnOk result (writer_tree log.new
-        ≡ stating
-        (Inst first (spec.call_words (flow_in flow.now) x (place_of place.now))
-        (spec.call_mems (flow_in flow.now) x (place_of place.now))) (triple_tree triple)
-        (writer_tree log.old)) }
+    ensures words { IfOk result (λ s.
+        map word_put_in s.words ≡ spec.call_words (flow_in flow.now) x (place_of place.now)) }
+    ensures mems { IfOk result (λ s.
+        map mem_put_in s.mems ≡ spec.call_mems (flow_in flow.now) x (place_of place.now)) }
 {
     let words = call_words(alloc, flow, x, place)?;
     let mems = call_mems(alloc, flow, x, place)?;
-    let number = log.state(Rule::Inst(first, Sub { words, mems }), triple)?;
-    Ok(number)
+    Ok(Sub { words, mems })
+}
+
+/// The triple of an exit over the parameters.
+fn first_gives(
+    alloc: Global,
+    flow: &Flow<'_>,
+    entry: u64,
+    def: u32,
+    exit: u32,
+    x: Exit,
+) -> Result<Triple, NoMemory>
+    ensures { IfOk result (λ t.
+        triple_tree t
+        ≡ spec.gives_over (flow_in flow.now) flow.now.code entry def exit x
+        (bodies.start (flow_in flow.now))) }
+{
+    let start = fresh(flow, 0, 0);
+    let triple = gives_over(alloc, flow, entry, def, exit, x, &start)?;
+    Ok(triple)
 }
 
 /// The lines of an exit of a definition that is entered at that address: its triple over the
-/// parameters, and over the current variables.
+/// parameters, and over the current variables, if they are others.
 fn exit_lines(
     alloc: Global,
     flow: &Flow<'_>,
@@ -157,17 +160,17 @@ fn exit_lines(
     requires mems { place.now.mems < 2 ^ 15 }
     requires fine { spec.IsFineExit (flow_in flow.now) flow.now.code entry def exit x
         (place_of place.now) }
-    ensures number { IfOk result (λ k. k ≡ log.old.next + 1) }
+    ensures exited { IfOk result (λ k.
+        spec.Exited (flow_in flow.now) flow.now.code entry def exit x (place_of place.now)
+        (writer_tree log.old) (writer_tree log.new) k) }
     ensures fits { IfOk result (λ k. k < 2 ^ 64) }
-    ensures log { OnOk result (writer_tree log.new
-        ≡ spec.exited (flow_in flow.now) flow.now.code entry def exit x (place_of place.now)
-        (writer_tree log.old)) }
 {
-    let start = fresh(flow, 0, 0);
-    let used = gives_over(alloc, flow, entry, def, exit, x, &start)?;
-    let first = log.state(Rule::UseExit(def, exit), used)?;
+    let used = first_gives(alloc, flow, entry, def, exit, x)?;
+    let known = first_gives(alloc, flow, entry, def, exit, x)?;
     let current = gives_over(alloc, flow, entry, def, exit, x, place)?;
-    let number = put_current(alloc, flow, first, x, place, current, log)?;
+    let put_in = call_sub(alloc, flow, x, place)?;
+    let first = log.state(Rule::UseExit(def, exit), used)?;
+    let number = log.restate(first, &known, Rule::Inst(first, put_in), current)?;
     Ok(number)
 }
 
@@ -197,10 +200,10 @@ pub fn leave_by(
     ensures is { IfOk result (λ t.
         cited_tree t
         ≡ spec.exit_standing (flow_in flow.now) flow.now.code def exit x (place_of place.now)
-        (writer_tree log.old)) }
-    ensures log { OnOk result (writer_tree log.new
-        ≡ spec.exited (flow_in flow.now) flow.now.code entry def exit x (place_of place.now)
-        (writer_tree log.old)) }
+        t.number) }
+    ensures exited { IfOk result (λ t.
+        spec.Exited (flow_in flow.now) flow.now.code entry def exit x (place_of place.now)
+        (writer_tree log.old) (writer_tree log.new) t.number) }
 {
     flow.law_of_code();
     law_of_exits(x);

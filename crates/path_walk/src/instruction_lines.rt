@@ -1,31 +1,34 @@
 //! The lines of one instruction.
 
-ghost use Rattle.std.specs.Prelude.{◌≡◌, ◌++◌, ◌+◌, ◌<◌, ◌^◌, All, IfOk, OnOk, map, option_copied, option_map, true};
+ghost use Rattle.std.specs.Prelude.{◌≡◌, ◌++◌, ◌<◌, ◌^◌, ℕ, All, IfOk, OnOk, false, map, option_copied, option_map, true};
 ghost use Rattle.rv_decode.specs.Registers.{destination};
 ghost use Rattle.rv_words.specs.Ranges.{range_bytes};
-ghost use Rattle.word_terms.specs.Tree.{Const, MemVar, mem_tree};
+ghost use Rattle.mc_text.specs.Number.{IsNumber};
+ghost use Rattle.word_terms.specs.Tree.{Const, MemVar, mem_tree, word_tree};
 ghost use Rattle.sep_assert.specs.Code.{IsWithin};
+ghost use Rattle.sep_assert.specs.Tree.{assertion_tree};
 ghost use Rattle.triple_kernel.specs.Tree.{So, fact_tree, triple_tree};
 ghost use Rattle.rvc.specs.Number.{length_of as length_in_bytes};
 ghost use Rattle.instr_axioms.specs.Terms as terms;
 ghost use Rattle.instr_axioms.specs.Axiom as axioms;
 ghost use Rattle.group_text.specs.declared.version.Version.TheVariants.{Four};
-ghost use Rattle.proof_text.specs.Line.{Inst};
+ghost use Rattle.proof_text.specs.Line.{Inst, mem_put_in, word_put_in};
 ghost use Rattle.proof_text.specs.LineLimits.{IsRule, IsTriple};
 ghost use Rattle.code_parts.specs.Bodies as bodies;
 ghost use Rattle.code_parts.specs.Graph.{StandsAt};
 ghost use Rattle.path_walk.specs.Further.{IsVersionFor, is_crossed as crosses};
 ghost use Rattle.path_walk.specs.inner.Acts as spec;
 ghost use Rattle.code_parts.specs.Kept.{flow_in};
-ghost use Rattle.path_walk.specs.inner.Writers.{IsOver, Steps, writer_tree, cited_tree, stating};
+ghost use Rattle.path_walk.specs.inner.Writers.{IsOver, Steps, writer_tree, cited_tree};
 ghost use Rattle.code_parts.specs.VariableMaps.{place_of};
 
-use crate::compose::{go_on, standing_at};
+use crate::compose::go_on;
 use crate::proof_writer::{CitedTheorem, ProofWriter};
 use crate::subs::{law_of_memories, own_mems, own_words};
 use code_parts::{Flow, VariableMap, after};
 use instr_axioms::{
-    Form, Variables, facts, has_memory, memory_after, own, pc_after, result, triple_over, word_code,
+    Form, Variables, facts, has_memory, memory_after, own, pc_after, result, triple_over,
+    word_code, words_before,
 };
 use proof_text::Rule;
 use rv_decode::{Instr, destination};
@@ -91,32 +94,65 @@ fn facts_of(alloc: Global, at: InstructionAt, place: &VariableMap) -> Result<Lis
     Ok(known)
 }
 
-/// The triple of an instruction over all registers and memories, with new variables for what it
+/// The variables of these memories.
+fn mems_before(alloc: Global, mems: &[u8], place: &VariableMap) -> Result<List<Mem>, NoMemory>
+    requires { All (λ p. p < 2) mems.now }
+    ensures { IfOk result (λ ms.
+        map mem_tree ms ≡ map (λ p. MemVar ((place_of place.now).memory p)) mems.now) }
+{
+    let mut before = List::new(alloc);
+    for p in mems {
+        before.push(Mem::Var(place.memory(*p)))?;
+    }
+    Ok(before)
+}
+
+/// What holds of these registers and memories at a place: that program counter, and their
+/// variables.
+fn standing_over(
+    alloc: Global,
+    pc: Word,
+    regs: &[u8],
+    mems: &[u8],
+    place: &VariableMap,
+) -> Result<Assertion, NoMemory>
+    requires { All (λ p. p < 2) mems.now }
+    ensures { IfOk result (λ a.
+        assertion_tree a
+        ≡ spec.standing_over (word_tree pc) regs.now mems.now (place_of place.now)) }
+{
+    let regs = words_before(alloc, regs, &place.names)?;
+    let mems = mems_before(alloc, mems, place)?;
+    Ok(Assertion { pc, regs, mems })
+}
+
+/// The triple of an instruction over these registers and memories, with new variables for what it
 /// writes.
 fn named_triple(
     alloc: Global,
-    flow: &Flow<'_>,
     at: InstructionAt,
+    regs: &[u8],
+    mems: &[u8],
     place: &VariableMap,
 ) -> Result<Triple, NoMemory>
     requires words { place.now.words < 2 ^ 15 }
     requires mems { place.now.mems < 2 ^ 15 }
     requires named { destination at.instr < 32 }
     requires memory { at.memory < 2 }
+    requires memories { All (λ p. p < 2) mems.now }
     ensures { IfOk result (λ t.
         triple_tree t
         ≡ spec.named_triple at.instr at.form at.addr (length_in_bytes at.word)
-        (axioms.word_code at.addr at.word) (flow_in flow.now).regs
-        (spec.all_mems (flow_in flow.now).mems) at.memory (place_of place.now)) }
+        (axioms.word_code at.addr at.word) regs.now mems.now at.memory (place_of place.now)) }
 {
     let known = facts_of(alloc, at, place)?;
-    let pre = standing_at(alloc, flow, Word::Const(at.addr), place)?;
+    let pre = standing_over(alloc, Word::Const(at.addr), regs, mems, place)?;
     let code = word_code(alloc, at.addr, at.word)?;
     let names = place.names_of(at.memory);
     let length = length_of(at.word);
     let pc = pc_after(alloc, at.instr, at.form, at.addr, length, &names)?;
     let next = after(at.instr, at.memory, *place);
-    let post = standing_at(alloc, flow, pc, &next)?;
+    let post = standing_over(alloc, pc, regs, mems, &next)?;
     Ok(Triple {
         facts: known,
         pre,
@@ -144,28 +180,14 @@ fn first_triple(alloc: Global, at: InstructionAt) -> Result<Triple, NoMemory>
     Ok(triple)
 }
 
-/// States the axiom of an instruction over the current variables, where it was stated over its own.
-fn put_current(
-    alloc: Global,
-    at: InstructionAt,
-    place: &VariableMap,
-    first: u64,
-    log: &mut ProofWriter,
-) -> Result<u64, NoMemory>
-    requires memory { at.memory < 2 }
-    requires rule { IsRule (Inst first (spec.own_words at.instr (place_of place.now))
-        (spec.own_mems at.instr at.memory (place_of place.now))) }
-    requires stated { IsTriple (axioms.triple_over at.instr at.form at.addr
-        (length_in_bytes at.word) (axioms.word_code at.addr at.word) (axioms.own at.instr)
-        (terms.has_memory at.instr) (bodies.names (place_of place.now) at.memory)) }
-    ensures number { IfOk result (λ k. k ≡ log.old.next) }
-    ensures log { OnOk result (writer_tree log.new
-        ≡ stating
-        (Inst first (spec.own_words at.instr (place_of place.now))
-        (spec.own_mems at.instr at.memory (place_of place.now)))
-        (axioms.triple_over at.instr at.form at.addr (length_in_bytes at.word)
+/// The triple of an instruction over its own registers and memory, with the current variables.
+fn current_triple(alloc: Global, at: InstructionAt, place: &VariableMap) -> Result<Triple, NoMemory>
+    requires { at.memory < 2 }
+    ensures { IfOk result (λ t.
+        triple_tree t
+        ≡ axioms.triple_over at.instr at.form at.addr (length_in_bytes at.word)
         (axioms.word_code at.addr at.word) (axioms.own at.instr) (terms.has_memory at.instr)
-        (bodies.names (place_of place.now) at.memory)) (writer_tree log.old)) }
+        (bodies.names (place_of place.now) at.memory)) }
 {
     let InstructionAt {
         instr: i,
@@ -178,104 +200,108 @@ fn put_current(
     let regs = regs.as_slice();
     let names = place.names_of(q);
     let triple = triple_over(alloc, i, form, addr, word, regs, has_memory(i), &names)?;
+    Ok(triple)
+}
+
+/// The variables that are put in for those of an instruction's axiom: the current ones of its own
+/// registers and of its memory.
+fn own_sub(alloc: Global, i: Instr, q: u8, place: &VariableMap) -> Result<Sub, NoMemory>
+    requires { q < 2 }
+    ensures words { IfOk result (λ s.
+        map word_put_in s.words ≡ spec.own_words i (place_of place.now)) }
+    ensures mems { IfOk result (λ s.
+        map mem_put_in s.mems ≡ spec.own_mems i q (place_of place.now)) }
+{
+    let regs = own(alloc, i)?;
+    let regs = regs.as_slice();
     let words = own_words(alloc, regs, place)?;
     let mems = own_mems(alloc, i, q, place)?;
-    let number = log.state(Rule::Inst(first, Sub { words, mems }), triple)?;
+    Ok(Sub { words, mems })
+}
+
+/// States the axiom of an instruction, and over the current variables.
+fn put_current(
+    alloc: Global,
+    at: InstructionAt,
+    place: &VariableMap,
+    log: &mut ProofWriter,
+) -> Result<u64, NoMemory>
+    requires memory { at.memory < 2 }
+    requires rule { (k : ℕ) → IsNumber k
+        → IsRule (Inst k (spec.own_words at.instr (place_of place.now))
+        (spec.own_mems at.instr at.memory (place_of place.now))) }
+    requires first { IsTriple (axioms.own_triple at.instr at.form at.addr at.word) }
+    requires stated { IsTriple (axioms.triple_over at.instr at.form at.addr
+        (length_in_bytes at.word) (axioms.word_code at.addr at.word) (axioms.own at.instr)
+        (terms.has_memory at.instr) (bodies.names (place_of place.now) at.memory)) }
+    ensures { IfOk result (λ k.
+        spec.Put at.instr at.form at.addr at.word at.memory (place_of place.now)
+        (writer_tree log.old) (writer_tree log.new) k) }
+{
+    let own = first_triple(alloc, at)?;
+    let known = first_triple(alloc, at)?;
+    let current = current_triple(alloc, at, place)?;
+    let put_in = own_sub(alloc, at.instr, at.memory, place)?;
+    let first = log.state(Rule::Axiom(at.addr, at.word, at.form), own)?;
+    let number = log.restate(first, &known, Rule::Inst(first, put_in), current)?;
     Ok(number)
 }
 
-/// The variables of these memories.
-fn mems_before(alloc: Global, mems: &[u8], place: &VariableMap) -> Result<List<Mem>, NoMemory>
-    requires { All (λ p. p < 2) mems.now }
-    ensures { IfOk result (λ ms.
-        map mem_tree ms ≡ map (λ p. MemVar ((place_of place.now).memory p)) mems.now) }
+/// The memory that an instruction loads from or stores to, if it does.
+fn own_mem(i: Instr, q: u8) -> &'static [u8]
+    requires { q < 2 }
+    ensures are { result.now ≡ spec.own_mem i q }
+    ensures low { All (λ p. p < 2) result.now }
 {
-    let mut before = List::new(alloc);
-    for p in mems {
-        before.push(Mem::Var(place.memory(*p)))?;
+    if !has_memory(i) {
+        return &[];
     }
-    Ok(before)
+    match q {
+        0 => &[0],
+        _ => &[1],
+    }
 }
 
-/// Memory p after an instruction that may store to memory q.
-fn mem_after(alloc: Global, i: Instr, q: u8, place: &VariableMap, p: u8) -> Result<Mem, NoMemory>
-    requires own { q < 2 }
-    requires memory { p < 2 }
-    ensures { IfOk result (λ m. mem_tree m ≡ spec.mem_after i q (place_of place.now) p) }
-{
-    if p == q {
-        return memory_after(alloc, i, &place.names_of(q));
-    }
-    Ok(Mem::Var(place.memory(p)))
-}
-
-/// These memories after an instruction that may store to memory q.
-fn mems_after(
-    alloc: Global,
-    i: Instr,
-    q: u8,
-    mems: &[u8],
-    place: &VariableMap,
-) -> Result<List<Mem>, NoMemory>
-    requires own { q < 2 }
-    requires memories { All (λ p. p < 2) mems.now }
-    ensures { IfOk result (λ ms.
-        map mem_tree ms ≡ map (spec.mem_after i q (place_of place.now)) mems.now) }
-{
-    let mut after = List::new(alloc);
-    for p in mems {
-        let m = mem_after(alloc, i, q, place, *p)?;
-        after.push(m)?;
-    }
-    Ok(after)
-}
-
-/// The triple of an instruction over all registers and over these memories.
-fn triple_on(
-    alloc: Global,
-    flow: &Flow<'_>,
-    at: InstructionAt,
-    mems: &[u8],
-    place: &VariableMap,
-) -> Result<Triple, NoMemory>
-    requires own { at.memory < 2 }
-    requires memories { All (λ p. p < 2) mems.now }
+/// The triple of an instruction over its own registers and memory, with new variables for what it
+/// writes.
+fn own_named(alloc: Global, at: InstructionAt, place: &VariableMap) -> Result<Triple, NoMemory>
+    requires words { place.now.words < 2 ^ 15 }
+    requires mems { place.now.mems < 2 ^ 15 }
+    requires named { destination at.instr < 32 }
+    requires memory { at.memory < 2 }
     ensures { IfOk result (λ t.
         triple_tree t
-        ≡ spec.triple_on at.instr at.form at.addr (length_in_bytes at.word)
-        (axioms.word_code at.addr at.word) (flow_in flow.now).regs mems.now at.memory
-        (place_of place.now)) }
+        ≡ spec.named_own at.instr at.form at.addr at.word at.memory (place_of place.now)) }
 {
-    let InstructionAt {
-        instr: i,
-        form,
-        addr,
-        word,
-        memory: q,
-    } = at;
-    let names = place.names_of(q);
-    let Triple {
-        facts,
-        pre,
-        code,
-        post,
-    } = triple_over(alloc, i, form, addr, word, flow.regs(), false, &names)?;
-    let pre = Assertion {
-        pc: pre.pc,
-        regs: pre.regs,
-        mems: mems_before(alloc, mems, place)?,
-    };
-    let post = Assertion {
-        pc: post.pc,
-        regs: post.regs,
-        mems: mems_after(alloc, i, q, mems, place)?,
-    };
-    Ok(Triple {
-        facts,
-        pre,
-        code,
-        post,
-    })
+    let regs = own(alloc, at.instr)?;
+    let regs = regs.as_slice();
+    let mems = own_mem(at.instr, at.memory);
+    let triple = named_triple(alloc, at, regs, mems, place)?;
+    Ok(triple)
+}
+
+/// States the triple of an instruction with new variables for what it writes, if it does.
+fn put_named(
+    alloc: Global,
+    at: InstructionAt,
+    place: &VariableMap,
+    current: u64,
+    log: &mut ProofWriter,
+) -> Result<u64, NoMemory>
+    requires words { place.now.words < 2 ^ 15 }
+    requires mems { place.now.mems < 2 ^ 15 }
+    requires named { destination at.instr < 32 }
+    requires memory { at.memory < 2 }
+    requires stated { IsTriple (spec.named_own at.instr at.form at.addr at.word at.memory
+        (place_of place.now)) }
+    ensures { IfOk result (λ k.
+        spec.Renamed at.instr at.form at.addr at.word at.memory (place_of place.now) current
+        (writer_tree log.old) (writer_tree log.new) k) }
+{
+    let known = current_triple(alloc, at, place)?;
+    let named = own_named(alloc, at, place)?;
+    let number = log.restate(current, &known, Rule::Weaken(current), named)?;
+    Ok(number)
 }
 
 /// The memories of a flow, in order.
@@ -297,6 +323,95 @@ fn is_crossed(i: Instr, q: u8) -> bool
     has_memory(i) && q != 0
 }
 
+/// The triple of an instruction over all registers and over these memories, with new variables for
+/// what it writes.
+fn wide_triple(
+    alloc: Global,
+    flow: &Flow<'_>,
+    at: InstructionAt,
+    mems: &[u8],
+    place: &VariableMap,
+) -> Result<Triple, NoMemory>
+    requires words { place.now.words < 2 ^ 15 }
+    requires mems { place.now.mems < 2 ^ 15 }
+    requires named { destination at.instr < 32 }
+    requires memory { at.memory < 2 }
+    requires memories { All (λ p. p < 2) mems.now }
+    ensures { IfOk result (λ t.
+        triple_tree t
+        ≡ spec.named_wide (flow_in flow.now) at.instr at.form at.addr at.word mems.now at.memory
+        (place_of place.now)) }
+{
+    let regs = flow.regs();
+    let triple = named_triple(alloc, at, regs, mems, place)?;
+    Ok(triple)
+}
+
+/// States the triple of an instruction over all registers and memories, where its own memory, if it
+/// has one, is the first.
+fn put_first(
+    alloc: Global,
+    flow: &Flow<'_>,
+    at: InstructionAt,
+    place: &VariableMap,
+    named: u64,
+    log: &mut ProofWriter,
+) -> Result<u64, NoMemory>
+    requires words { place.now.words < 2 ^ 15 }
+    requires mems { place.now.mems < 2 ^ 15 }
+    requires named { destination at.instr < 32 }
+    requires memory { at.memory < 2 }
+    requires low { terms.has_memory at.instr ≡ true → at.memory < (flow_in flow.now).mems }
+    requires first { crosses at.instr at.memory ≡ false }
+    requires in_order { IsTriple (spec.named_wide (flow_in flow.now) at.instr at.form at.addr
+        at.word (spec.all_mems (flow_in flow.now).mems) at.memory (place_of place.now)) }
+    ensures widened { IfOk result (λ k.
+        spec.Widened (flow_in flow.now) at.instr at.form at.addr at.word at.memory
+        (place_of place.now) named (writer_tree log.old) (writer_tree log.new) k) }
+    ensures fits { IfOk result (λ k. k < 2 ^ 64) }
+{
+    let known = own_named(alloc, at, place)?;
+    let wide = wide_triple(alloc, flow, at, all_mems(flow), place)?;
+    let number = log.restate(named, &known, Rule::Frame(named), wide)?;
+    Ok(number)
+}
+
+/// States the triple of an instruction over all registers and memories, where its own memory is the
+/// second of two: it is framed with that in front, and the memories are exchanged.
+fn put_crossed(
+    alloc: Global,
+    flow: &Flow<'_>,
+    at: InstructionAt,
+    place: &VariableMap,
+    named: u64,
+    log: &mut ProofWriter,
+) -> Result<u64, NoMemory>
+    requires words { place.now.words < 2 ^ 15 }
+    requires mems { place.now.mems < 2 ^ 15 }
+    requires named { destination at.instr < 32 }
+    requires memory { at.memory < 2 }
+    requires low { terms.has_memory at.instr ≡ true → at.memory < (flow_in flow.now).mems }
+    requires crossed { crosses at.instr at.memory ≡ true }
+    requires version { log.old.version ≡ Four }
+    requires two { (flow_in flow.now).mems ≡ 2 }
+    requires wide { IsTriple (spec.named_wide (flow_in flow.now) at.instr at.form at.addr at.word
+        (spec.mem_first at.instr at.memory (flow_in flow.now).mems) at.memory
+        (place_of place.now)) }
+    requires in_order { IsTriple (spec.named_wide (flow_in flow.now) at.instr at.form at.addr
+        at.word (spec.all_mems (flow_in flow.now).mems) at.memory (place_of place.now)) }
+    ensures widened { IfOk result (λ k.
+        spec.Widened (flow_in flow.now) at.instr at.form at.addr at.word at.memory
+        (place_of place.now) named (writer_tree log.old) (writer_tree log.new) k) }
+    ensures fits { IfOk result (λ k. k < 2 ^ 64) }
+{
+    let known = own_named(alloc, at, place)?;
+    let crossed = wide_triple(alloc, flow, at, &[1, 0], place)?;
+    let wide = wide_triple(alloc, flow, at, all_mems(flow), place)?;
+    let framed = log.restate(named, &known, Rule::Frame(named), crossed)?;
+    let number = log.state_further(framed, wide)?;
+    Ok(number)
+}
+
 /// States the triple of an instruction over all registers and memories, in order: it is framed with
 /// its own memory in front, and where that is the second of two they are exchanged.
 fn put_wide(
@@ -304,37 +419,35 @@ fn put_wide(
     flow: &Flow<'_>,
     at: InstructionAt,
     place: &VariableMap,
-    current: u64,
+    named: u64,
     log: &mut ProofWriter,
 ) -> Result<u64, NoMemory>
+    requires words { place.now.words < 2 ^ 15 }
+    requires mems { place.now.mems < 2 ^ 15 }
+    requires named { destination at.instr < 32 }
     requires memory { at.memory < 2 }
     requires low { terms.has_memory at.instr ≡ true → at.memory < (flow_in flow.now).mems }
     requires crossed { crosses at.instr at.memory ≡ true
         → (log.old.version ≡ Four) × ((flow_in flow.now).mems ≡ 2) }
-    requires wide { IsTriple (spec.triple_on at.instr at.form at.addr (length_in_bytes at.word)
-        (axioms.word_code at.addr at.word) (flow_in flow.now).regs
+    requires wide { IsTriple (spec.named_wide (flow_in flow.now) at.instr at.form at.addr at.word
         (spec.mem_first at.instr at.memory (flow_in flow.now).mems) at.memory
         (place_of place.now)) }
-    requires in_order { IsTriple (spec.triple_on at.instr at.form at.addr (length_in_bytes at.word)
-        (axioms.word_code at.addr at.word) (flow_in flow.now).regs
-        (spec.all_mems (flow_in flow.now).mems) at.memory (place_of place.now)) }
-    ensures number { IfOk result (λ k. k ≡ spec.ordered_at at.instr at.memory log.old.next) }
-    ensures log { OnOk result (writer_tree log.new
-        ≡ spec.ordered (flow_in flow.now) at.instr at.form at.addr at.word at.memory
-        (place_of place.now) current (writer_tree log.old)) }
+    requires in_order { IsTriple (spec.named_wide (flow_in flow.now) at.instr at.form at.addr
+        at.word (spec.all_mems (flow_in flow.now).mems) at.memory (place_of place.now)) }
+    ensures widened { IfOk result (λ k.
+        spec.Widened (flow_in flow.now) at.instr at.form at.addr at.word at.memory
+        (place_of place.now) named (writer_tree log.old) (writer_tree log.new) k) }
+    ensures fits { IfOk result (λ k. k < 2 ^ 64) }
 {
-    let wide = triple_on(alloc, flow, at, all_mems(flow), place)?;
     if !is_crossed(at.instr, at.memory) {
-        return log.state(Rule::Frame(current), wide);
+        return put_first(alloc, flow, at, place, named, log);
     }
-    let crossed = triple_on(alloc, flow, at, &[1, 0], place)?;
-    let framed = log.state(Rule::Frame(current), crossed)?;
-    log.state_further(framed, wide)
+    put_crossed(alloc, flow, at, place, named, log)
 }
 
 /// The lines of an instruction in that form, where q is the memory that it loads from or stores to,
-/// if it does: its axiom, over the current variables, over all registers and memories, and with new
-/// variables for what it writes.
+/// if it does: its axiom, over the current variables, with new variables for what it writes, and
+/// over all registers and memories. None of them states what the one before it does.
 fn instruction_lines(
     alloc: Global,
     flow: &Flow<'_>,
@@ -351,19 +464,14 @@ fn instruction_lines(
         → (log.old.version ≡ Four) × ((flow_in flow.now).mems ≡ 2) }
     requires fine { spec.IsFineInstruction (flow_in flow.now) at.instr at.form at.addr at.word
         at.memory (place_of place.now) }
-    ensures number { IfOk result (λ k.
-        k ≡ spec.ordered_at at.instr at.memory (log.old.next + 1 + 1) + 1) }
+    ensures acted { IfOk result (λ k.
+        spec.Acted (flow_in flow.now) at.instr at.form at.addr at.word at.memory
+        (place_of place.now) (writer_tree log.old) (writer_tree log.new) k) }
     ensures fits { IfOk result (λ k. k < 2 ^ 64) }
-    ensures log { OnOk result (writer_tree log.new
-        ≡ spec.acted (flow_in flow.now) at.instr at.form at.addr at.word at.memory
-        (place_of place.now) (writer_tree log.old)) }
 {
-    let own = first_triple(alloc, at)?;
-    let first = log.state(Rule::Axiom(at.addr, at.word, at.form), own)?;
-    let current = put_current(alloc, at, place, first, log)?;
-    let wide = put_wide(alloc, flow, at, place, current, log)?;
-    let named = named_triple(alloc, flow, at, place)?;
-    let number = log.state(Rule::Weaken(wide), named)?;
+    let current = put_current(alloc, at, place, log)?;
+    let named = put_named(alloc, at, place, current, log)?;
+    let number = put_wide(alloc, flow, at, place, named, log)?;
     Ok(number)
 }
 
@@ -384,12 +492,10 @@ fn act(
         StandsAt (flow_in flow.now) flow.now.code n
         × (cited_tree t
         ≡ spec.act_standing ((flow_in flow.now).instr n) form ((flow_in flow.now).addr n)
-        ((flow_in flow.now).word n) ((flow_in flow.now).uses n) (place_of place.now)
-        (writer_tree log.old))
-        × (writer_tree log.new
-        ≡ spec.acted (flow_in flow.now) ((flow_in flow.now).instr n) form
+        ((flow_in flow.now).word n) ((flow_in flow.now).uses n) (place_of place.now) t.number)
+        × spec.Acted (flow_in flow.now) ((flow_in flow.now).instr n) form
         ((flow_in flow.now).addr n) ((flow_in flow.now).word n) ((flow_in flow.now).uses n)
-        (place_of place.now) (writer_tree log.old))) }
+        (place_of place.now) (writer_tree log.old) (writer_tree log.new) t.number) }
 {
     let i = flow.instr(n);
     let addr = flow.addr(n);

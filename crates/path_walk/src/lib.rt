@@ -9,8 +9,9 @@
 //! `walk_all` goes through the parts in order, each after those that it calls, and `walk_in`
 //! through one part: it follows the branches of its code from its first node to the next cuts,
 //! which is symbolic execution along each path. At each instruction it states the axiom, puts in
-//! the current variables, frames it, and joins it to the theorem of the way there; a call of a part
-//! is a step by the fact that this part leaves by an exit. A path's last theorem is cited as a
+//! the current variables, names what it writes by a new one, frames it, and joins it to the theorem
+//! of the way there; a line that would state what the one before it does isn't written. A call of a
+//! part is a step by the fact that this part leaves by an exit. A path's last theorem is cited as a
 //! leaf, and a line `loop` closes the definition by its leaves. Behind it each theorem of the part
 //! is forgotten, in order: later parts need only that the definition is closed. A `ProofWriter`
 //! numbers the theorems, a `CitedTheorem` is one of them with its facts and code.

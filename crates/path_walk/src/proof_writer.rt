@@ -5,14 +5,14 @@ ghost use Rattle.triple_kernel.specs.Tree.{fact_tree, triple_tree};
 ghost use Rattle.group_text.specs.Version.{version_of};
 ghost use Rattle.proof_text.specs.Line.{line_tree, rule_tree};
 ghost use Rattle.proof_text.specs.LineLimits.{IsRule, IsTriple};
-ghost use Rattle.path_walk.specs.inner.Writers.{IsFineWriter, IsFineCited, citing, writer_tree, cited_tree, stating, stating_further};
+ghost use Rattle.path_walk.specs.inner.Writers.{IsFineWriter, IsFineCited, Restated, citing, writer_tree, cited_tree, stating, stating_further};
 
 use group_text::Version;
 use proof_text::{Line, Rule};
 use rv_words::{List, NoMemory};
 use std::alloc::Global;
 use std::marker::Model;
-use triple_kernel::{Fact, Triple};
+use triple_kernel::{Fact, Triple, same_triple};
 use word_terms::Code;
 
 /// A theorem by its number, with its facts and its code.
@@ -142,6 +142,29 @@ impl ProofWriter {
         };
         self.lines.push(Line::States { rule, stated })?;
         self.next = next;
+        Ok(number)
+    }
+
+    /// States a triple by a rule from theorem `held`, unless it is what that one states, and tells
+    /// the number of the theorem that states it.
+    pub fn restate(
+        &mut self,
+        held: u64,
+        known: &Triple,
+        rule: Rule,
+        stated: Triple,
+    ) -> Result<u64, NoMemory>
+        requires rule { IsRule (rule_tree rule) }
+        requires stated { IsTriple (triple_tree stated) }
+        ensures restated { IfOk result (λ k.
+            Restated held (rule_tree rule) (triple_tree known.now) (triple_tree stated)
+            (writer_tree self.old) (writer_tree self.new) k) }
+        ensures fits { IfOk result (λ k. k < 2 ^ 64) }
+    {
+        if same_triple(known, &stated) {
+            return Ok(held);
+        }
+        let number = self.state(rule, stated)?;
         Ok(number)
     }
 

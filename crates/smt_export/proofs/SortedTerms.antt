@@ -3,6 +3,7 @@ use Rattle.std.proofs.Common.{◌≡◌, ℕ, zero, suc, ◌+◌, ◌<◌, ◌�
 use Rattle.std.specs.List.{AllByRecursion}
 use Rattle.std.specs.Fmt.{decimal}
 use Rattle.std.specs.Str.{bytes_eq}
+use Rattle.std.proofs.lemmas.Bool.{lt-ltb}
 use Rattle.std.proofs.lemmas.Bool.Decides.{nat_tests}
 use Rattle.rv_words.specs.declared.comparison.Cmp.{Cmp}
 use Rattle.rv_words.specs.declared.comparison.Cmp.TheVariants.{Eq, Ne, Lt, Ge, Ltu, Geu}
@@ -27,10 +28,10 @@ pub atom-sort : (fs : Rules) (s : Sorts) (name : List ℕ) (r : Sort) → s name
 atom-sort fs s name r is = λ j. atom_sort (is j) (fs name) name
 
 pub word-sort : (fs : Rules) (s : Sorts) (n : ℕ) → n < 2 ^ 64 → sort_of fs s (word n) ≡ word_sort
-word-sort fs s n h = λ j. literal_sort_of (numeral-decimal n h j) (Some 64)
+word-sort fs s n h = (λ j. literal_sort_of (numeral-decimal n h j) (Some 64)) ∙ (λ j. cond (lt-ltb n (2 ^ 64) h j) word_sort None)
 
 pub number-sort : (fs : Rules) (s : Sorts) (n : ℕ) → n < 2 ^ 32 → sort_of fs s (exit_number n) ≡ Some (sort.Bits 32)
-number-sort fs s n h = λ j. literal_sort_of (numeral-decimal n (omega arith) j) (Some 32)
+number-sort fs s n h = (λ j. literal_sort_of (numeral-decimal n (omega arith) j) (Some 32)) ∙ (λ j. cond (lt-ltb n (2 ^ 32) h j) (Some (sort.Bits 32)) None)
 
 pub true-sort : (fs : Rules) (s : Sorts) → fs (codes "true") ≡ None → s (codes "true") ≡ None → sort_of fs s (Atom (codes "true")) ≡ Some sort.Bool
 true-sort fs s f v = λ j. atom_sort (v j) (f j) (codes "true")

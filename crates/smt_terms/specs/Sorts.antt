@@ -1,6 +1,6 @@
 -- The sorts of terms, and which lists of functions are scripts: each name is a symbol, those of functions differ, and each
 -- body has its function's sort and applies operators and earlier functions alone.
-use Rattle.std.specs.Prelude.{◌≡◌, ℕ, ◌==◌, Bool, true, false, ◌&&◌, ◌||◌, if◌then◌else◌, List, [], ◌∷◌, codes, Option, Some, None, option_map, unwrap_or}
+use Rattle.std.specs.Prelude.{◌≡◌, ℕ, ◌^◌, ◌==◌, nat_lt, Bool, true, false, ◌&&◌, ◌||◌, if◌then◌else◌, List, [], ◌∷◌, codes, Option, Some, None, option_map, unwrap_or}
 use Rattle.std.specs.List.{AllByRecursion}
 use Rattle.std.specs.Str.{bytes_eq}
 use Rattle.smt_terms.specs.declared.sort.Sort.{Sort}
@@ -25,8 +25,9 @@ atom_sort (Some s) f a = Some s
 atom_sort None (Some f) a = f []
 atom_sort None None a = constant_sort a
 
+-- a literal's number has no more bits than its width
 abbrev pub literal_sort_of : Option ℕ → Option ℕ → Option Sort
-literal_sort_of (Some n) (Some w) = vector_sort w
+literal_sort_of (Some n) (Some w) = if nat_lt n (2 ^ w) then vector_sort w else None
 literal_sort_of _ _ = None
 
 abbrev pub literal_sort : Exprs → Option Sort

@@ -1,8 +1,9 @@
 -- The parts of bindings and literals.
-use Rattle.std.proofs.Common.{◌≡◌, ℕ, ◌%◌, ◌^◌, ◌<◌, ◌≤◌, min, true, cond, List, [], ◌∷◌, length, map, Option, Some, None, option_map, refl, sym, ap, ◌∙◌, ⊎_elim, arith}
-use Rattle.std.specs.Prelude.{◌&&◌, MatchOption}
-use Rattle.std.proofs.lemmas.Bool.{le-leb, cases_lt}
+use Rattle.std.proofs.Common.{◌≡◌, ℕ, zero, suc, ◌%◌, ◌^◌, ◌<◌, ◌≤◌, min, Bool, true, false, cond, List, [], ◌∷◌, length, map, Option, Some, None, option_map, refl, sym, ap, ◌∙◌, ⊎_elim, arith}
+use Rattle.std.specs.Prelude.{nat_lt, nat_le, ◌&&◌, MatchOption}
+use Rattle.std.proofs.lemmas.Bool.{le-leb, lt-leb, cases_lt}
 use Rattle.std.proofs.Math.Nat.{min-eq_left, min-eq_right}
+use Rattle.smt_terms.specs.declared.sort.Sort.{Sort}
 use Rattle.smt_terms.specs.declared.sort.Sort.TheVariants as sort
 use Rattle.smt_terms.specs.declared.tree.Tree.{Tree}
 use Rattle.smt_terms.specs.Expression.{Expr, Atom, Node, Exprs, End, Then, exprs}
@@ -10,6 +11,7 @@ use Rattle.smt_terms.specs.Operators.{Bits, is_width, vector_sort}
 use Rattle.smt_terms.specs.Meaning.{literal_of}
 use Rattle.smt_terms.specs.Sorts.{Rules, Sorts, literal_sort, literal_sort_of, binding_sort}
 use Rattle.smt_terms.specs.Views.{expr}
+use Rattle.smt_values.specs.declared.datum.Datum.{Datum}
 use Rattle.smt_values.specs.declared.datum.Datum.TheVariants as datum
 use Rattle.smt_values.specs.declared.vector.Vector.{Vector}
 use Rattle.smt_values.specs.inner.Datum.{StandsFor}
@@ -109,16 +111,61 @@ literal_stands o p r q n w v e f g h some most width number s t =
     let j = told-small p q w g h in
     let small : w ≡ j.0 = least j.0 j.2 in
     let wide : is_width w ≡ true = is-width w some most in
-    let sorts : literal_sort_of o p ≡ Some (sort.Bits w) = (λ k. literal_sort_of (i.1 k) (j.1 k)) ∙ (λ k. vector_sort (sym small k)) ∙ (λ k. cond (wide k) (Some (sort.Bits w)) None) in
-    let same : Some (sort.Bits w) ≡ Some s = sym sorts ∙ t in
+    let sorts : vector_sort j.0 ≡ Some (sort.Bits w) = (λ k. vector_sort (sym small k)) ∙ (λ k. cond (wide k) (Some (sort.Bits w)) None) in
+    let same : Some (sort.Bits w) ≡ Some s = sym sorts ∙ within (nat_lt i.0 (2 ^ j.0)) (vector_sort j.0) s (sym (λ k. literal_sort_of (i.1 k) (j.1 k)) ∙ t) in
     let is : sort.Bits w ≡ s = cc in
     let low : n % 2 ^ w ≡ i.0 % 2 ^ w = ap (λ (k : ℕ). k % 2 ^ w) i.2 ∙ low_wrapped i.0 w wide in (
       ap sort.Bits width ∙ is,
       (λ k. Bits (width k) (number k)) ∙ (λ k. Bits w (low k)) ∙ (λ k. Bits (small k) (i.0 % 2 ^ small k)) ∙ sym (λ k. literal_of (i.1 k) (j.1 k)),
     )
   where
+    within : (b : Bool) (q : Option Sort) (r : Sort) → cond b q None ≡ Some r → q ≡ Some r
+    within true q r h = h
+    within false q r h = absurd (cc)
+
     least : (m : ℕ) → w ≡ min m 129 → w ≡ m
     least m e = ⊎_elim (λ lt. let le : 129 ≤ m = omega arith in let big : w ≡ 129 = e ∙ min-eq_right le in absurd (omega arith)) (λ le. let le2 : m ≤ 129 = omega arith in e ∙ min-eq_left le2) (cases_lt 128 m)
+
+-- ---- literals without a width or a numeral
+
+never : (a b : Bool) → b ≡ false → (a && b) ≡ false
+never true b h = h
+never false b h = refl
+
+no-width : (b : Bool) (m : ℕ) (s : Sort) → vector_sort m ≡ None → cond b (vector_sort m) None ≡ Some s → ⊥
+no-width true m s e h = let same : None ≡ Some s = sym e ∙ h in absurd (cc)
+no-width false m s e h = absurd (cc)
+
+far-sort : (m w : ℕ) → min m 129 ≡ w → 128 < w → vector_sort m ≡ None
+far-sort m w e far =
+    let long : 128 < m = ⊎_elim (λ lt. lt) (λ le. let same : m ≡ w = sym (min-eq_left (omega (arith, le))) ∙ e in omega (arith, same, far)) (cases_lt 128 m) in
+    λ j. cond (never (nat_le 1 m) (nat_le m 128) (lt-leb m 128 long) j) (Some (sort.Bits m)) None
+
+none-sort : (m w : ℕ) → min m 129 ≡ w → w ≤ 0 → vector_sort m ≡ None
+none-sort zero w e le = refl
+none-sort (suc m) w e le =
+    absurd (⊎_elim (λ lt. let big : min (suc m) 129 ≡ 129 = min-eq_right (omega (arith, lt)) in omega (arith, big, e, le)) (λ few. let same : min (suc m) 129 ≡ suc m = min-eq_left (omega (arith, few)) in omega (arith, same, e, le)) (cases_lt 128 (suc m)))
+
+unsorted-stands : (o p q : Option ℕ) (w : ℕ) (d : Datum) → q ≡ option_map (λ (n : ℕ). min n 129) p → q ≡ Some w → ((m : ℕ) → min m 129 ≡ w → vector_sort m ≡ None) → StandsFor (literal_sort_of o p) (literal_of o p) d
+unsorted-stands None None q w d e h none s t = absurd (cc)
+unsorted-stands None (Some m) q w d e h none s t = absurd (cc)
+unsorted-stands (Some n) None q w d e h none s t = absurd (cc)
+unsorted-stands (Some n) (Some m) q w d e h none s t =
+    let same : Some (min m 129) ≡ Some w = sym e ∙ h in
+    let is : min m 129 ≡ w = cc in
+    absurd (no-width (nat_lt n (2 ^ m)) m s (none m is) t)
+
+pub far_stands : (o p q : Option ℕ) (w : ℕ) (d : Datum) → q ≡ option_map (λ (n : ℕ). min n 129) p → q ≡ Some w → 128 < w → StandsFor (literal_sort_of o p) (literal_of o p) d
+far_stands o p q w d e h far = unsorted-stands o p q w d e h (λ m is. far-sort m w is far)
+
+pub none_stands : (o p q : Option ℕ) (w : ℕ) (d : Datum) → q ≡ option_map (λ (n : ℕ). min n 129) p → q ≡ Some w → w ≤ 0 → StandsFor (literal_sort_of o p) (literal_of o p) d
+none_stands o p q w d e h le = unsorted-stands o p q w d e h (λ m is. none-sort m w is le)
+
+pub no_numeral_stands : (o p q : Option ℕ) (d : Datum) → q ≡ option_map (λ (n : ℕ). min n 129) p → q ≡ None → StandsFor (literal_sort_of o p) (literal_of o p) d
+no_numeral_stands None None q d e h s t = absurd (cc)
+no_numeral_stands None (Some m) q d e h s t = absurd (cc)
+no_numeral_stands (Some n) None q d e h s t = absurd (cc)
+no_numeral_stands (Some n) (Some m) q d e h s t = let same : Some (min m 129) ≡ None = sym e ∙ h in absurd (cc)
 
 pub match-weaker : {T : Type 0} (o : Option T) (A B : Type 0) (P Q : T → Type 0) → (A → B) → ((x : T) → P x → Q x) → MatchOption o A P → MatchOption o B Q
 match-weaker None A B P Q f g h = f h

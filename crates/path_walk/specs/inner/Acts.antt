@@ -1,5 +1,5 @@
 -- The lines of one instruction, and of one exit of a call.
-use Rattle.std.specs.Prelude.{◌≡◌, ◌⊎◌, ℕ, suc, ◌+◌, ◌==◌, not, filter, if◌then◌else◌, List, [], ◌∷◌, ◌++◌, map, Option, None, Some}
+use Rattle.std.specs.Prelude.{◌≡◌, ◌⊎◌, ℕ, suc, ◌+◌, ◌==◌, not, filter, if◌then◌else◌, true, false, List, [], ◌∷◌, ◌++◌, map, Option, None, Some}
 use Rattle.std.specs.List.{Contains, range_with_len}
 use Rattle.rv_words.specs.Bytes.{over}
 use Rattle.rv_words.specs.declared.range.Range.{Range}
@@ -9,6 +9,7 @@ use Rattle.rv_decode.specs.Registers.{destination}
 use Rattle.rvc.specs.Number.{length_of}
 use Rattle.rv_words.specs.declared.comparison.Cmp.TheVariants.{Eq}
 use Rattle.word_terms.specs.Tree.{WordTree, MemTree, Compare, Const, Var, MemVar}
+use Rattle.sep_assert.specs.Tree.{AssertionTree}
 use Rattle.tailrec_lang.specs.declared.group.Exit.{Exit}
 use Rattle.tailrec_lang.specs.declared.group.Exit.TheVariants.{At, Ret}
 use Rattle.tailrec_lang.specs.Tree.{ValuesTree}
@@ -23,7 +24,7 @@ use Rattle.proof_text.specs.LineLimits.{IsRule, IsTriple}
 use Rattle.code_parts.specs.Bodies.{Flow, VariableMap, current, fresh, is_store, names, place_after, start, with_pc}
 use Rattle.path_walk.specs.Further.{is_crossed}
 use Rattle.path_walk.specs.inner.Histories.{exit_place, pc_of}
-use Rattle.path_walk.specs.inner.Writers.{WriterTree, CitedTree, standing_at, stating, stating_further}
+use Rattle.path_walk.specs.inner.Writers.{WriterTree, CitedTree, Restated, standing_at, stating, stating_further}
 
 -- the terms for the variables from i on
 abbrev pub numbered : {A : Type 0} → ℕ → List A → List (ℕ × A)
@@ -68,57 +69,71 @@ triple_on i form a k code regs ms q v = record {
   post = record { pc = pc_after i form a k (names v q); regs = map (register_with (word_after i a k (names v q))) regs; mems = map (mem_after i q v) ms };
 }
 
+-- what holds of these registers and memories at a place: that program counter, and their variables
+abbrev pub standing_over : WordTree → List ℕ → List ℕ → VariableMap → AssertionTree
+standing_over pc regs ms v = record { pc = pc; regs = map (λ r. (r, Var (v.reg r))) regs; mems = map (λ p. MemVar (v.memory p)) ms }
+
 -- .. with new variables for what was written
 abbrev pub named_triple : Instr → Form → ℕ → ℕ → List Range → List ℕ → List ℕ → ℕ → VariableMap → TripleTree
 named_triple i form a k code regs ms q v = record {
   facts = map So (conditions i form (names v q)) ++ new_facts i a k q v;
-  pre = record { pc = Const a; regs = map (register_with (names v q).word) regs; mems = map (λ p. MemVar (v.memory p)) ms };
+  pre = standing_over (Const a) regs ms v;
   code = code;
-  post = record {
-    pc = pc_after i form a k (names v q);
-    regs = map (λ r. (r, Var ((place_after i q v).reg r))) regs;
-    mems = map (λ p. MemVar ((place_after i q v).memory p)) ms;
-  };
+  post = standing_over (pc_after i form a k (names v q)) regs ms (place_after i q v);
 }
 
 -- its axiom, and that over the current variables
-abbrev pub put : Instr → Form → ℕ → ℕ → ℕ → VariableMap → WriterTree → WriterTree
-put i form a w q v l =
-    stating (Inst l.next (own_words i v) (own_mems i q v)) (triple_over i form a (length_of w) (word_code a w) (own i) (has_memory i) (names v q)) (stating (Axiom a w form) (own_triple i form a w) l)
+abbrev pub Put : Instr → Form → ℕ → ℕ → ℕ → VariableMap → WriterTree → WriterTree → ℕ → Type 0
+Put i form a w q v old new k =
+    Restated old.next (Inst old.next (own_words i v) (own_mems i q v)) (own_triple i form a w) (triple_over i form a (length_of w) (word_code a w) (own i) (has_memory i) (names v q)) (stating (Axiom a w form) (own_triple i form a w) old) new k
 
--- that theorem over all registers and memories, its own in front; and then with the memories in order, by the further rule of the text where its
--- own isn't the first
-abbrev pub ordered : Flow → Instr → Form → ℕ → ℕ → ℕ → VariableMap → ℕ → WriterTree → WriterTree
-ordered f i form a w q v current l =
-    if is_crossed i q then stating_further l.next (triple_on i form a (length_of w) (word_code a w) f.regs (all_mems f.mems) q v)
-    (stating (Frame current) (triple_on i form a (length_of w) (word_code a w) f.regs (mem_first i q f.mems) q v) l)
-    else stating (Frame current) (triple_on i form a (length_of w) (word_code a w) f.regs (mem_first i q f.mems) q v) l
+-- that theorem with new variables, over its own registers and its own memory
+abbrev pub named_own : Instr → Form → ℕ → ℕ → ℕ → VariableMap → TripleTree
+named_own i form a w q v = named_triple i form a (length_of w) (word_code a w) (own i) (own_mem i q) q v
 
--- the number of the theorem that these end with, where the next was to have that number
-abbrev pub ordered_at : Instr → ℕ → ℕ → ℕ
-ordered_at i q next = if is_crossed i q then next + 1 else next
+abbrev pub Renamed : Instr → Form → ℕ → ℕ → ℕ → VariableMap → ℕ → WriterTree → WriterTree → ℕ → Type 0
+Renamed i form a w q v current old new k =
+    Restated current (Weaken current) (triple_over i form a (length_of w) (word_code a w) (own i) (has_memory i) (names v q)) (named_own i form a w q v) old new k
 
--- all of these, and then with new variables
-abbrev pub acted : Flow → Instr → Form → ℕ → ℕ → ℕ → VariableMap → WriterTree → WriterTree
-acted f i form a w q v l =
-    stating (Weaken (ordered_at i q (l.next + 1 + 1))) (named_triple i form a (length_of w) (word_code a w) f.regs (all_mems f.mems) q v) (ordered f i form a w q v (l.next + 1) (put i form a w q v l))
+-- .. over all registers and over these memories
+abbrev pub named_wide : Flow → Instr → Form → ℕ → ℕ → List ℕ → ℕ → VariableMap → TripleTree
+named_wide f i form a w ms q v = named_triple i form a (length_of w) (word_code a w) f.regs ms q v
 
--- the theorem that these end with
-abbrev pub act_standing : Instr → Form → ℕ → ℕ → ℕ → VariableMap → WriterTree → CitedTree
-act_standing i form a w q v l = record {
-  number = ordered_at i q (l.next + 1 + 1) + 1;
-  facts = map So (conditions i form (names v q)) ++ new_facts i a (length_of w) q v;
-  code = word_code a w;
-}
+-- .. with the memories in order, by the further rule of the text where its own isn't the first
+abbrev pub Ordered : Flow → Instr → Form → ℕ → ℕ → ℕ → VariableMap → ℕ → WriterTree → WriterTree → ℕ → Type 0
+Ordered f i form a w q v framed old new k =
+    ((is_crossed i q ≡ false) × (new ≡ old) × (k ≡ framed))
+    ⊎ ((is_crossed i q ≡ true) × (new ≡ stating_further framed (named_wide f i form a w (all_mems f.mems) q v) old) × (k ≡ old.next))
+
+-- that theorem over all registers and memories, its own in front, and then in order
+pub record Widened (f : Flow) (i : Instr) (form : Form) (a w q : ℕ) (v : VariableMap) (named : ℕ) (old new : WriterTree) (k : ℕ) : Type 0 where
+  pub framed : ℕ
+  pub mid : WriterTree
+  pub wide : Restated named (Frame named) (named_own i form a w q v) (named_wide f i form a w (mem_first i q f.mems) q v) old mid framed
+  pub order : Ordered f i form a w q v framed mid new k
+
+-- all of these; theorem k is what they end with
+pub record Acted (f : Flow) (i : Instr) (form : Form) (a w q : ℕ) (v : VariableMap) (old new : WriterTree) (k : ℕ) : Type 0 where
+  pub current : ℕ
+  pub named : ℕ
+  pub second : WriterTree
+  pub third : WriterTree
+  pub put : Put i form a w q v old second current
+  pub renamed : Renamed i form a w q v current second third named
+  pub widened : Widened f i form a w q v named third new k
+
+-- .. with its facts and its code
+abbrev pub act_standing : Instr → Form → ℕ → ℕ → ℕ → VariableMap → ℕ → CitedTree
+act_standing i form a w q v k = record { number = k; facts = map So (conditions i form (names v q)) ++ new_facts i a (length_of w) q v; code = word_code a w }
 
 -- these lines have a text
 pub record IsFineInstruction (f : Flow) (i : Instr) (form : Form) (a w q : ℕ) (v : VariableMap) : Type 0 where
   pub rule : (k : ℕ) → IsNumber k → IsRule (Inst k (own_words i v) (own_mems i q v))
   pub first : IsTriple (own_triple i form a w)
   pub current_over : IsTriple (triple_over i form a (length_of w) (word_code a w) (own i) (has_memory i) (names v q))
-  pub wide : IsTriple (triple_on i form a (length_of w) (word_code a w) f.regs (mem_first i q f.mems) q v)
-  pub in_order : IsTriple (triple_on i form a (length_of w) (word_code a w) f.regs (all_mems f.mems) q v)
-  pub named : IsTriple (named_triple i form a (length_of w) (word_code a w) f.regs (all_mems f.mems) q v)
+  pub named : IsTriple (named_own i form a w q v)
+  pub wide : IsTriple (named_wide f i form a w (mem_first i q f.mems) q v)
+  pub in_order : IsTriple (named_wide f i form a w (all_mems f.mems) q v)
 
 -- ---- one exit of a call
 
@@ -143,13 +158,14 @@ call_words f x v = numbered 0 ((current f v).words ++ (results_at f x v.words v.
 abbrev pub call_mems : Flow → Exit → VariableMap → List (ℕ × MemTree)
 call_mems f x v = numbered 0 ((current f v).mems ++ (results_at f x v.words v.mems).mems)
 
-abbrev pub exited : Flow → List Range → ℕ → ℕ → ℕ → Exit → VariableMap → WriterTree → WriterTree
-exited f ranges entry d k x v l =
-    stating (Inst l.next (call_words f x v) (call_mems f x v)) (gives_over f ranges entry d k x v) (stating (UseExit d k) (gives_over f ranges entry d k x (start f)) l)
+-- its lines: over the parameters, and over the current variables
+abbrev pub Exited : Flow → List Range → ℕ → ℕ → ℕ → Exit → VariableMap → WriterTree → WriterTree → ℕ → Type 0
+Exited f ranges entry d k x v old new j =
+    Restated old.next (Inst old.next (call_words f x v) (call_mems f x v)) (gives_over f ranges entry d k x (start f)) (gives_over f ranges entry d k x v) (stating (UseExit d k) (gives_over f ranges entry d k x (start f)) old) new j
 
 -- the theorem that these end with
-abbrev pub exit_standing : Flow → List Range → ℕ → ℕ → Exit → VariableMap → WriterTree → CitedTree
-exit_standing f ranges d k x v l = record { number = l.next + 1; facts = Gives d k (current f v) (results_at f x v.words v.mems) ∷ []; code = ranges }
+abbrev pub exit_standing : Flow → List Range → ℕ → ℕ → Exit → VariableMap → ℕ → CitedTree
+exit_standing f ranges d k x v j = record { number = j; facts = Gives d k (current f v) (results_at f x v.words v.mems) ∷ []; code = ranges }
 
 -- these lines have a text
 pub record IsFineExit (f : Flow) (ranges : List Range) (entry d k : ℕ) (x : Exit) (v : VariableMap) : Type 0 where
@@ -192,12 +208,19 @@ abbrev pub GoesOn : (f : Flow) (entry : ℕ) → Option CitedTree → CitedTree 
 GoesOn f entry None there to u old new t = (new ≡ old) × (t ≡ there)
 GoesOn f entry (Some st) there to u old new t = Joined f entry st there to u old new t
 
+-- the lines of an exit of a definition that is entered at that address, joined to the way to there
+pub record LeftBy (f : Flow) (entry : ℕ) (ranges : List Range) (called d k : ℕ) (x : Exit) (v : VariableMap) (from : Option CitedTree) (old new : WriterTree) (t : CitedTree) : Type 0 where
+  pub number : ℕ
+  pub mid : WriterTree
+  pub exited : Exited f ranges called d k x v old mid number
+  pub on : GoesOn f entry from (exit_standing f ranges d k x v number) (pc_of x v.words) (exit_place f x v.words v.mems) mid new t
+
 -- ---- a call of a function that returns
 
 -- the lines of its exit, joined to the way to here, and of the return to the address behind the call
 pub record Entered (f : Flow) (entry : ℕ) (ranges : List Range) (called d back : ℕ) (u : VariableMap) (from : Option CitedTree) (old new : WriterTree) (t : CitedTree) : Type 0 where
   pub mid : WriterTree
   pub last : CitedTree
-  pub on : GoesOn f entry from (exit_standing f ranges d 0 Ret u old) (Var u.words) (fresh f (suc u.words) u.mems) (exited f ranges called d 0 Ret u old) mid last
+  pub on : LeftBy f entry ranges called d 0 Ret u from old mid last
   pub log : new ≡ steered f entry (Var u.words) back (fresh f (suc u.words) u.mems) last mid
   pub theorem : t ≡ steered_standing (Var u.words) back last mid

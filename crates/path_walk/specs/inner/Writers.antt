@@ -1,5 +1,5 @@
 -- The lines of a part as they are written, and what they have shown.
-use Rattle.std.specs.Prelude.{◌≡◌, ℕ, ◌+◌, ◌<◌, ◌^◌, List, [], ◌∷◌, ◌++◌, map, fold, true, Option, None, Some}
+use Rattle.std.specs.Prelude.{◌≡◌, ◌⊎◌, ℕ, ◌+◌, ◌<◌, ◌^◌, List, [], ◌∷◌, ◌++◌, map, fold, true, Option, None, Some}
 use Rattle.std.specs.List.{AllByRecursion, AllZip, range_with_len}
 use Rattle.mc_text.specs.Number.{IsNumber}
 use Rattle.group_text.specs.declared.version.Version.{Version as Known}
@@ -90,6 +90,10 @@ stating rule t l = adding (States rule t) l
 
 abbrev pub stating_further : ℕ → TripleTree → WriterTree → WriterTree
 stating_further p t l = adding (Further p t) l
+
+-- a triple was stated by a rule from a theorem, unless that states it already; k is the number of the theorem that states it
+abbrev pub Restated : (held : ℕ) (rule : RuleTree) (known t : TripleTree) (old new : WriterTree) (k : ℕ) → Type 0
+Restated held rule known t old new k = ((known ≡ t) × (new ≡ old) × (k ≡ held)) ⊎ ((new ≡ stating rule t old) × (k ≡ old.next))
 
 abbrev pub citing : ℕ → WriterTree → WriterTree
 citing k l = record { version = l.version; lines = l.lines; next = l.next; cited = l.cited ++ k ∷ [] }

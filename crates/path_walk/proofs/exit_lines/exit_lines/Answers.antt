@@ -1,24 +1,19 @@
-use Rattle.std.proofs.Common.{sym, ◌∙◌, subst}
-use Rattle.proof_text.specs.Line.{Inst, UseExit}
-use Rattle.proof_text.specs.LineLimits.{IsTriple}
-use Rattle.code_parts.specs.Bodies.{Flow, VariableMap}
-use Rattle.path_walk.specs.inner.Acts.{call_mems, call_words, gives_over}
+use Rattle.std.proofs.Common.{map, sym, ◌∙◌, subst}
+use Rattle.proof_text.specs.Line.{Inst, UseExit, word_put_in}
+use Rattle.proof_text.specs.LineLimits.{IsRule}
+use Rattle.path_walk.specs.inner.Acts.{call_mems}
 use Rattle.code_parts.specs.Kept.{flow_in}
 use Rattle.path_walk.specs.inner.Writers.{writer_tree, stating}
 use Rattle.code_parts.specs.VariableMaps.{place_of}
+use Rattle.path_walk.proofs.WriterLemmas.{restated_of}
 use Rattle.path_walk.proofs.exit_lines.exit_lines.Goals as goal
 
-pub state-requires-clause-stated : goal.state-requires-clause-stated
-state-requires-clause-stated c =
-    subst IsTriple (sym (c.in_ok-used.ensures ∙ (λ j. gives_over (flow_in c.args.flow.now) c.args.flow.now.code c.args.entry c.args.def c.args.exit c.args.x (c.fresh-start.ensures.is j)))) c.requires.fine.first
+pub restate-requires-clause-rule : goal.restate-requires-clause-rule
+restate-requires-clause-rule c =
+    subst (λ ms. IsRule (Inst c.in_ok-first.first (map word_put_in c.in_ok-put_in.put_in.words) ms)) (sym c.in_ok-put_in.ensures.mems)
+    (subst (λ ws. IsRule (Inst c.in_ok-first.first ws (call_mems (flow_in c.args.flow.now) c.args.x (place_of c.args.place.now)))) (sym c.in_ok-put_in.ensures.words) (c.requires.fine.rule c.in_ok-first.first c.in_ok-first.ensures.fits))
 
-pub put_current-requires-clause-rule : goal.put_current-requires-clause-rule
-put_current-requires-clause-rule c = c.requires.fine.rule c.in_ok-first.first c.in_ok-first.ensures.fits
-
-pub returns-clause-log : goal.returns-clause-log
-returns-clause-log c =
-    let f : Flow = flow_in c.args.flow.now in
-    let v : VariableMap = place_of c.args.place.now in
-    let used = c.in_ok-used.ensures ∙ (λ j. gives_over f c.args.flow.now.code c.args.entry c.args.def c.args.exit c.args.x (c.fresh-start.ensures.is j)) in
-    let first = c.in_ok-first.ensures.log ∙ (λ j. stating (UseExit c.args.def c.args.exit) (used j) (writer_tree c.args.log.now)) in
-    c.in_ok-number.ensures.log ∙ (λ j. stating (Inst (c.in_ok-first.ensures.number j) (call_words f c.args.x v) (call_mems f c.args.x v)) (c.in_ok-current.ensures j) (first j))
+pub returns-clause-exited : goal.returns-clause-exited
+returns-clause-exited c =
+    restated_of _ _ _ _ _ _ _ _ _ _ _ _ c.in_ok-first.ensures.number (λ j. Inst (c.in_ok-first.ensures.number j) (c.in_ok-put_in.ensures.words j) (c.in_ok-put_in.ensures.mems j)) c.in_ok-known.ensures c.in_ok-current.ensures
+    (c.in_ok-first.ensures.log ∙ (λ j. stating (UseExit c.args.def c.args.exit) (c.in_ok-used.ensures j) (writer_tree c.args.log.now))) c.in_ok-number.ensures.restated

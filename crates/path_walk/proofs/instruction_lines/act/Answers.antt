@@ -1,4 +1,4 @@
-use Rattle.std.proofs.Common.{◌≡◌, ℕ, true, ◌+◌, ◌^◌, ◌<◌, ◌≤◌, ◌++◌, map, sym, ◌∙◌, subst, arith}
+use Rattle.std.proofs.Common.{◌≡◌, ℕ, true, ◌+◌, ◌^◌, ◌<◌, ◌≤◌, ◌++◌, ap, map, sym, ◌∙◌, subst, arith}
 use Rattle.rv_decode.specs.declared.instruction.Instr.{Instr}
 use Rattle.rvc.specs.Number.{length_of}
 use Rattle.triple_kernel.specs.Tree.{So}
@@ -6,10 +6,11 @@ use Rattle.instr_axioms.specs.Terms.{conditions, has_memory}
 use Rattle.group_text.specs.declared.version.Version.TheVariants.{Four}
 use Rattle.code_parts.specs.Bodies.{Flow, VariableMap, names}
 use Rattle.path_walk.specs.Further.{is_crossed}
-use Rattle.path_walk.specs.inner.Acts.{IsFineInstruction, act_standing, acted, new_facts}
+use Rattle.path_walk.specs.inner.Acts.{Acted, IsFineInstruction, act_standing, new_facts}
 use Rattle.code_parts.specs.Kept.{flow_in}
-use Rattle.path_walk.specs.inner.Writers.{WriterTree, writer_tree}
+use Rattle.path_walk.specs.inner.Writers.{CitedTree, writer_tree}
 use Rattle.code_parts.specs.VariableMaps.{place_of}
+use Rattle.path_walk.proofs.InstructionLemmas.{acted_of}
 use Rattle.path_walk.proofs.LineTexts.{act-fine, act-standing-fine}
 use Rattle.path_walk.proofs.LowVariables.{low_place}
 use Rattle.path_walk.proofs.instruction_lines.act.Goals as goal
@@ -55,10 +56,11 @@ pub returns : goal.returns
 returns c =
     let f : Flow = flow_in c.args.flow.now in
     let v : VariableMap = place_of c.args.place.now in
-    let l : WriterTree = writer_tree c.args.log.now in (
+    let number = ap (λ (t : CitedTree). t.number) c.new.ensures in (
       c.word-word.ensures.stands,
       c.new.ensures
-          ∙ (λ j. record { number = c.in_ok-number.ensures.number j; facts = c.in_ok-known.ensures j; code = c.in_ok-code.ensures j })
-          ∙ (λ j. act_standing (c.instr-i.ensures.is j) c.args.form (c.addr-addr.ensures j) (c.word-word.ensures.is j) (c.uses-q.ensures.is j) v l),
-      c.in_ok-number.ensures.log ∙ (λ j. acted f (c.instr-i.ensures.is j) c.args.form (c.addr-addr.ensures j) (c.word-word.ensures.is j) (c.uses-q.ensures.is j) v l),
+          ∙ (λ j. record { number = sym number j; facts = c.in_ok-known.ensures j; code = c.in_ok-code.ensures j })
+          ∙ (λ j. act_standing (c.instr-i.ensures.is j) c.args.form (c.addr-addr.ensures j) (c.word-word.ensures.is j) (c.uses-q.ensures.is j) v c.new.result.number),
+      subst (λ (k : ℕ). Acted f (f.instr c.args.n) c.args.form (f.addr c.args.n) (f.word c.args.n) (f.uses c.args.n) v (writer_tree c.args.log.now) (writer_tree c.instruction_lines.new.log) k) (sym number)
+          (acted_of f _ _ c.args.form _ _ _ _ _ _ v _ _ _ c.instr-i.ensures.is c.addr-addr.ensures c.word-word.ensures.is c.uses-q.ensures.is c.in_ok-number.ensures.acted),
     )

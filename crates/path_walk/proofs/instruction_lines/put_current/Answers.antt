@@ -1,24 +1,18 @@
-use Rattle.std.proofs.Common.{◌≡◌, map, sym, ◌∙◌, subst}
-use Rattle.rvc.specs.Number.{length_of}
-use Rattle.instr_axioms.specs.Axiom.{own, triple_over, word_code}
-use Rattle.proof_text.specs.Line.{Inst}
-use Rattle.proof_text.specs.LineLimits.{IsTriple}
-use Rattle.code_parts.specs.Bodies.{names}
-use Rattle.path_walk.specs.inner.Acts.{numbered}
-use Rattle.path_walk.specs.inner.Writers.{writer_tree, stating}
+use Rattle.std.proofs.Common.{map, sym, ◌∙◌, subst}
+use Rattle.proof_text.specs.Line.{Axiom, Inst, mem_put_in, word_put_in}
+use Rattle.proof_text.specs.LineLimits.{IsRule}
 use Rattle.code_parts.specs.VariableMaps.{place_of}
+use Rattle.path_walk.specs.inner.Acts.{own_mems, own_words}
+use Rattle.path_walk.specs.inner.Writers.{writer_tree, stating}
+use Rattle.path_walk.proofs.WriterLemmas.{restated_of}
 use Rattle.path_walk.proofs.instruction_lines.put_current.Goals as goal
 
-pub state-requires-clause-stated : goal.state-requires-clause-stated
-state-requires-clause-stated c =
-    let regs : c.as_slice-regs.result.now ≡ own c.args.at.instr = c.as_slice-regs.ensures ∙ c.in_ok-regs.ensures.own in
-    subst IsTriple
-    (sym (c.in_ok-triple.ensures ∙ (λ j. triple_over c.args.at.instr c.args.at.form c.args.at.addr (length_of c.args.at.word) (word_code c.args.at.addr c.args.at.word) (regs j) (c.has_memory.ensures j) (c.names_of-names.ensures j))))
-    c.requires.stated
+pub restate-requires-clause-rule : goal.restate-requires-clause-rule
+restate-requires-clause-rule c =
+    subst (λ ms. IsRule (Inst c.in_ok-first.first (map word_put_in c.in_ok-put_in.put_in.words) ms)) (sym c.in_ok-put_in.ensures.mems)
+    (subst (λ ws. IsRule (Inst c.in_ok-first.first ws (own_mems c.args.at.instr c.args.at.memory (place_of c.args.place.now)))) (sym c.in_ok-put_in.ensures.words) (c.requires.rule c.in_ok-first.first c.in_ok-first.ensures.fits))
 
-pub returns-clause-log : goal.returns-clause-log
-returns-clause-log c =
-    let regs : c.as_slice-regs.result.now ≡ own c.args.at.instr = c.as_slice-regs.ensures ∙ c.in_ok-regs.ensures.own in
-    let same = c.in_ok-triple.ensures ∙ (λ j. triple_over c.args.at.instr c.args.at.form c.args.at.addr (length_of c.args.at.word) (word_code c.args.at.addr c.args.at.word) (regs j) (c.has_memory.ensures j) (c.names_of-names.ensures j)) in
-    let words = c.in_ok-words.ensures ∙ (λ j. numbered 0 (map (names (place_of c.args.place.now) 0).word (regs j))) in
-    c.in_ok-number.ensures.log ∙ (λ j. stating (Inst c.args.first (words j) (c.in_ok-mems.ensures j)) (same j) (writer_tree c.args.log.now))
+pub returns : goal.returns
+returns c =
+    restated_of _ _ _ _ _ _ _ _ _ _ _ _ c.in_ok-first.ensures.number (λ j. Inst (c.in_ok-first.ensures.number j) (c.in_ok-put_in.ensures.words j) (c.in_ok-put_in.ensures.mems j)) c.in_ok-known.ensures c.in_ok-current.ensures
+    (c.in_ok-first.ensures.log ∙ (λ j. stating (Axiom c.args.at.addr c.args.at.word c.args.at.form) (c.in_ok-own.ensures j) (writer_tree c.args.log.now))) c.in_ok-number.ensures.restated

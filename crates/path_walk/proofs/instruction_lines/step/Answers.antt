@@ -32,5 +32,5 @@ pub returns-clause-steps : goal.returns-clause-steps
 returns-clause-steps c =
     let v : VariableMap = place_of c.args.place.now in
     let named = c.names_of.ensures ∙ ap (names v) c.uses-q.ensures.is in
-    steps_made (flow_in c.args.flow.now) c.args.flow.now.code c.args.n c.args.entry c.args.form v _ _ _ _ _ _ _ _ c.requires.node c.in_ok-last.ensures.0 c.requires.form c.in_ok-last.ensures.1 c.in_ok-last.ensures.2
+    steps_made (flow_in c.args.flow.now) c.args.flow.now.code c.args.n c.args.entry c.args.form v _ _ _ _ _ _ _ _ _ c.requires.node c.in_ok-last.ensures.0 c.requires.form c.in_ok-last.ensures.1 c.in_ok-last.ensures.2
     (c.in_ok-pc.ensures ∙ (λ j. pc_after (c.instr-i.ensures.is j) c.args.form (c.addr.ensures j) (c.size.ensures j) (named j))) (c.after-next.ensures.is ∙ (λ j. place_after (c.instr-i.ensures.is j) (c.uses-q.ensures.is j) v)) c.in_ok-there.ensures.on
