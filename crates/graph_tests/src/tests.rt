@@ -5,4 +5,5 @@ mod elf_files;
 mod forests;
 mod graphs;
 mod programs;
+mod rows;
 mod stack;

@@ -4,12 +4,12 @@
 ghost use Rattle.std.specs.Prelude.{◌≡◌, ◌<◌, length};
 
 use super::programs::{ADD, RETURN, graph, numbers, repeated};
+use super::rows::each;
 use flow_graph::{FlowFault, Graph, Outside};
 use loop_forest::*;
 use rv_decode::{Instr, encode};
 use rv_words::Cmp;
 use std::alloc::Global;
-use std::test::Fail;
 
 /// `beq x10, x0, 0`
 const TO_ITSELF: u32 = 0x00050063;
@@ -28,7 +28,7 @@ fn is_as(f: &Forest, l: u32, row: &Row, count: u32) -> bool {
             return false;
         }
     }
-    f.head(l) == row.0 && f.exits(l) == row.2 && f.parent(l) == row.3
+    (f.head(l) == row.0) & (f.exits(l) == row.2) & (f.parent(l) == row.3)
 }
 
 /// Whether these are the loops of a forest.
@@ -56,11 +56,22 @@ fn cuts_are(g: &Graph, f: &Forest, cuts: &[u32]) -> bool
     true
 }
 
-/// Whether a program has these loops and these cuts.
-fn has(alloc: Global, words: &[u32], rows: &[Row], cuts: &[u32]) -> Option<bool> {
-    let g = graph(alloc, words)?;
-    let f = find_loops(alloc, &g).ok()?;
-    Some(loops_are(&f, rows, g.len()) && cuts_are(&g, &f, cuts))
+/// Whether a graph has these loops and these cuts.
+fn graph_has(alloc: Global, g: &Graph, rows: &[Row], cuts: &[u32]) -> bool {
+    match find_loops(alloc, g) {
+        Ok(f) => loops_are(&f, rows, g.len()) & cuts_are(g, &f, cuts),
+        Err(_) => false,
+    }
+}
+
+/// A program at 0x10000, with its loops and cuts.
+type Program = (&'static [u32], &'static [Row], &'static [u32]);
+
+fn has(alloc: Global, (words, rows, cuts): Program) -> bool {
+    match graph(alloc, words) {
+        Some(g) => graph_has(alloc, &g, rows, cuts),
+        None => false,
+    }
 }
 
 /// Code as a compiler writes it, with a loop, a break, and two branches that join again.
@@ -88,8 +99,7 @@ const NINE_EXITS: &[u32] = &[
     RETURN, RETURN, RETURN, RETURN, RETURN,
 ];
 
-/// Programs at 0x10000, with their loops and cuts.
-static FORESTS: [(&[u32], &[Row], &[u32]); 9] = [
+static FORESTS: [Program; 9] = [
     (&[RETURN], &[], &[0]),
     // nested loops: beq x10, x0, -4 and beq x10, x0, -12
     (
@@ -126,14 +136,6 @@ static FORESTS: [(&[u32], &[Row], &[u32]); 9] = [
     ),
 ];
 
-#[test]
-fn loops_and_cuts_are_found(rt: HostRuntime) -> Result<(), Fail> {
-    for &(words, rows, cuts) in &FORESTS {
-        assert!(rt; has(rt.alloc(), words, rows, cuts) == Some(true));
-    }
-    Ok(())
-}
-
 /// Why a program has no forest, if it has none.
 fn refusal(alloc: Global, words: &[u32]) -> Option<Outside> {
     let g = graph(alloc, words)?;
@@ -161,61 +163,80 @@ fn shows(why: &Outside, cycle: &[u64], walks: [&[u64]; 2]) -> bool {
 const TWO_ENTRIES: &[u32] = &[0x00050463, 0x00158593, 0xfe059ee3, RETURN];
 
 /// Whether it is refused with that cycle and two walks into it.
-fn two_entries_are_shown(alloc: Global) -> Option<bool> {
-    let why = refusal(alloc, TWO_ENTRIES)?;
+fn two_entries_are_shown(alloc: Global) -> bool {
     let walks: [&[u64]; 2] = [&[0x10000, 0x10004], &[0x10000, 0x10008]];
-    Some(shows(&why, &[0x10004, 0x10008], walks))
+    match refusal(alloc, TWO_ENTRIES) {
+        Some(why) => shows(&why, &[0x10004, 0x10008], walks),
+        None => false,
+    }
 }
 
 /// Whether a loop with nine exits is refused with its head.
-fn nine_exits_are_refused(alloc: Global) -> Option<bool> {
-    let why = refusal(alloc, NINE_EXITS)?;
-    Some(numbers(&why) == (11, 0x10000, 0))
+fn nine_exits_are_refused(alloc: Global) -> bool {
+    match refusal(alloc, NINE_EXITS) {
+        Some(why) => numbers(&why) == (11, 0x10000, 0),
+        None => false,
+    }
 }
 
 #[test]
-fn what_has_no_forest_is_refused(rt: HostRuntime) {
-    assert!(rt; nine_exits_are_refused(rt.alloc()) == Some(true));
-    assert!(rt; two_entries_are_shown(rt.alloc()) == Some(true));
+fn loops_and_cuts_are_found(rt: HostRuntime) {
+    assert!(rt; each(rt.alloc(), &FORESTS, has));
+    assert!(rt; nine_exits_are_refused(rt.alloc()));
+    assert!(rt; two_entries_are_shown(rt.alloc()));
+}
+
+/// How many cuts a forest has.
+fn count_of_cuts(g: &Graph, f: &Forest) -> u32
+    requires { length f.now.places ≡ length g.now.addrs }
+{
+    let mut cuts = 0u32;
+    for n in 0..g.len() {
+        cuts = cuts.wrapping_add(u32::from(f.is_cut(n)));
+    }
+    cuts
 }
 
 /// How many loops and how many cuts a program has.
 fn counts(alloc: Global, words: &[u32]) -> Option<(u32, u32)> {
     let g = graph(alloc, words)?;
-    let f = find_loops(alloc, &g).ok()?;
-    let mut cuts = 0u32;
-    for n in 0..g.len() {
-        if f.is_cut(n) {
-            cuts = cuts.wrapping_add(1);
-        }
+    match find_loops(alloc, &g) {
+        Ok(f) => Some((f.loops(), count_of_cuts(&g, &f))),
+        Err(_) => None,
     }
-    Some((f.loops(), cuts))
 }
 
-/// So many loops, each inside the one before.
-fn nested(alloc: Global, count: i32) -> Option<Vec<u32>> {
+/// The word of a branch by an offset.
+fn branch(offset: i32) -> u32 {
+    let branch = Instr::Branch {
+        cmp: Cmp::Eq,
+        rs1: 10,
+        rs2: 0,
+        offset,
+    };
+    encode(&branch).unwrap_or(0)
+}
+
+/// So many loops, each inside the one before, while there is memory.
+fn nested(alloc: Global, count: i32) -> Vec<u32> {
     let mut words = Vec::new(alloc);
     for _ in 0..count {
-        words.push(ADD).ok()?;
+        let _done = words.push(ADD);
     }
     let mut offset = -4i32;
     for _ in 0..count {
-        let branch = Instr::Branch {
-            cmp: Cmp::Eq,
-            rs1: 10,
-            rs2: 0,
-            offset,
-        };
-        words.push(encode(&branch)?).ok()?;
+        let _done = words.push(branch(offset));
         offset = offset.wrapping_sub(8);
     }
-    words.push(RETURN).ok()?;
-    Some(words)
+    let _done = words.push(RETURN);
+    words
 }
 
-/// Straight code, branches to themselves, and branches over one instruction each, with their loops
-/// and cuts.
-static LONG: [(u32, usize, (u32, u32)); 5] = [
+/// How often a word stands, and the loops and cuts of that.
+type Repeated = (u32, usize, (u32, u32));
+
+/// Straight code, branches to themselves, and branches over one instruction each.
+static LONG: [Repeated; 5] = [
     (0x00050463, 1000, (0, 1000)),
     (ADD, 1023, (0, 32)),
     (ADD, 32, (0, 2)),
@@ -223,29 +244,16 @@ static LONG: [(u32, usize, (u32, u32)); 5] = [
     (ADD, 31, (0, 1)),
 ];
 
-/// The counts of so many times one word, and then two returns.
-fn counts_of_repeated(alloc: Global, word: u32, count: usize) -> Option<(u32, u32)> {
-    let words = repeated(alloc, word, count, &[RETURN, RETURN])?;
-    counts(alloc, &words)
+/// Whether so many times one word, and then two returns, have these counts.
+fn has_counts(alloc: Global, (word, count, found): Repeated) -> bool {
+    let words = repeated(alloc, word, count, &[RETURN, RETURN]);
+    counts(alloc, &words) == Some(found)
 }
 
 /// The counts of so many loops within one another.
 fn counts_of_nested(alloc: Global, count: i32) -> Option<(u32, u32)> {
-    let words = nested(alloc, count)?;
+    let words = nested(alloc, count);
     counts(alloc, &words)
-}
-
-#[test]
-fn long_code_is_cut(rt: HostRuntime) -> Result<(), Fail> {
-    for &(word, count, found) in &LONG {
-        assert!(rt; counts_of_repeated(rt.alloc(), word, count) == Some(found));
-    }
-    Ok(())
-}
-
-#[test]
-fn deep_loops_are_found(rt: HostRuntime) {
-    assert!(rt; counts_of_nested(rt.alloc(), 500) == Some((500, 1000)));
 }
 
 /// How deep a node's region is.
@@ -258,24 +266,24 @@ fn depth_at(f: &Forest, node: u32) -> u32
     }
 }
 
-/// Whether these are the regions of a program's nodes with their depths, and the entry has the
+/// Whether these are the regions of a graph's nodes with their depths, and the entry has the
 /// largest number.
-fn regions_are(alloc: Global, words: &[u32], regions: &[(Option<u32>, u32)]) -> Option<bool> {
-    let g = graph(alloc, words)?;
-    let f = find_loops(alloc, &g).ok()?;
+fn regions_are(g: &Graph, f: &Forest, regions: &[(Option<u32>, u32)]) -> bool
+    requires { length f.now.places ≡ length g.now.addrs }
+{
     if g.len() as usize != regions.len() {
-        return Some(false);
+        return false;
     }
     for (n, &(region, depth)) in regions.iter().enumerate() {
         let node = n as u32;
-        if node >= g.len() || f.region(node) != region || depth_at(&f, node) != depth {
-            return Some(false);
+        if node >= g.len() || f.region(node) != region || depth_at(f, node) != depth {
+            return false;
         }
         if node != g.entry() && f.number(node) >= f.number(g.entry()) {
-            return Some(false);
+            return false;
         }
     }
-    Some(true)
+    true
 }
 
 /// Loops within one another, and the region of each node with its depth.
@@ -288,8 +296,23 @@ static REGIONS: [(Option<u32>, u32); 6] = [
     (None, 0),
 ];
 
+fn graph_has_regions(alloc: Global, g: &Graph) -> bool {
+    match find_loops(alloc, g) {
+        Ok(f) => regions_are(g, &f, &REGIONS),
+        Err(_) => false,
+    }
+}
+
+fn regions_are_told(alloc: Global) -> bool {
+    match graph(alloc, &[ADD, ADD, ADD, 0xfe050ee3, 0xfe050ae3, RETURN]) {
+        Some(g) => graph_has_regions(alloc, &g),
+        None => false,
+    }
+}
+
 #[test]
-fn regions_are_told(rt: HostRuntime) {
-    let words = [ADD, ADD, ADD, 0xfe050ee3, 0xfe050ae3, RETURN];
-    assert!(rt; regions_are(rt.alloc(), &words, &REGIONS) == Some(true));
+fn long_and_deep_code_is_cut(rt: HostRuntime) {
+    assert!(rt; each(rt.alloc(), &LONG, has_counts));
+    assert!(rt; counts_of_nested(rt.alloc(), 500) == Some((500, 1000)));
+    assert!(rt; regions_are_told(rt.alloc()));
 }

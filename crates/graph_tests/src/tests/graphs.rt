@@ -2,10 +2,11 @@
 //! there is memory.
 
 use super::programs::{ADD, RETURN, built, graph, image_of, numbers, repeated};
+use super::rows::each;
+use elf_image::Image;
 use flow_graph::*;
 use rv_decode::Instr;
 use std::alloc::Global;
-use std::test::Fail;
 
 /// `ecall`
 const ENVIRONMENT: u32 = 0x00000073;
@@ -32,11 +33,9 @@ fn is_as(g: &Graph, n: u32, row: &Row) -> bool {
     if n >= g.len() {
         return false;
     }
-    g.addr(n) == row.0
-        && g.node(row.0) == Some(n)
-        && are_left(g.succs(n), row.1)
-        && are_left(g.preds(n), row.2)
-        && row.1.is_empty() == matches!(g.instr(n), Instr::Jalr { .. })
+    let is_there = (g.addr(n) == row.0) & (g.node(row.0) == Some(n));
+    let has_edges = are_left(g.succs(n), row.1) & are_left(g.preds(n), row.2);
+    is_there & has_edges & (row.1.is_empty() == matches!(g.instr(n), Instr::Jalr { .. }))
 }
 
 /// Whether the nodes of a graph are as the rows say.
@@ -52,8 +51,10 @@ fn are_as(g: &Graph, rows: &[Row]) -> bool {
     true
 }
 
-/// Programs at 0x10000, alone or of linked functions, with the nodes of their graphs.
-static GRAPHS: [(bool, &[u32], &[Row]); 12] = [
+/// A program at 0x10000, alone or of linked functions, with the nodes of its graph.
+type Program = (bool, &'static [u32], &'static [Row]);
+
+static GRAPHS: [Program; 12] = [
     (false, &[RETURN], &[(0x10000, &[], &[])]),
     // a cycle with two entries
     (
@@ -140,21 +141,17 @@ static GRAPHS: [(bool, &[u32], &[Row]); 12] = [
 ];
 
 /// Whether the graph of a program has these nodes, the first of them as its entry.
-fn has_nodes(alloc: Global, linked: bool, words: &[u32], rows: &[Row]) -> Option<bool> {
-    let g = built(alloc, linked, words)?.ok()?;
-    Some(are_as(&g, rows) && g.entry() == 0)
-}
-
-#[test]
-fn graphs_are_built(rt: HostRuntime) -> Result<(), Fail> {
-    for &(linked, words, rows) in &GRAPHS {
-        assert!(rt; has_nodes(rt.alloc(), linked, words, rows) == Some(true));
+fn has_nodes(alloc: Global, (linked, words, rows): Program) -> bool {
+    match built(alloc, linked, words) {
+        Some(Ok(g)) => are_as(&g, rows) & (g.entry() == 0),
+        _ => false,
     }
-    Ok(())
 }
 
-/// Programs at 0x10000, alone or of linked functions, and the addresses that are reached.
-static REACHED: [(bool, &[u32], &[u64]); 4] = [
+/// A program at 0x10000, alone or of linked functions, and the addresses that are reached.
+type Reach = (bool, &'static [u32], &'static [u64]);
+
+static REACHED: [Reach; 4] = [
     // beq x10, x0, 8, a call of the environment, a return
     (
         false,
@@ -167,63 +164,79 @@ static REACHED: [(bool, &[u32], &[u64]); 4] = [
     (true, &[CALL, RETURN], &[0x10000, 0x10004]),
 ];
 
-/// Whether exactly these addresses are reached.
-fn are_reached(alloc: Global, linked: bool, words: &[u32], addresses: &[u64]) -> Option<bool> {
-    let image = image_of(alloc, words)?;
-    let found = reached(alloc, linked, &image, 0x10000).ok()??;
+/// Whether these are the addresses that were reached.
+fn are_found(found: &Visited, addresses: &[u64]) -> bool {
     for &a in addresses {
         if found.place(a).is_none() {
-            return Some(false);
+            return false;
         }
     }
-    Some(found.len() == addresses.len())
+    found.len() == addresses.len()
 }
 
-#[test]
-fn faulty_addresses_are_reached(rt: HostRuntime) -> Result<(), Fail> {
-    for &(linked, words, addresses) in &REACHED {
-        let right = are_reached(rt.alloc(), linked, words, addresses);
-        assert!(rt; right == Some(true));
+/// Whether exactly these addresses of an image are reached.
+fn image_reaches(alloc: Global, linked: bool, image: &Image, addresses: &[u64]) -> bool {
+    match reached(alloc, linked, image, 0x10000) {
+        Ok(Some(found)) => are_found(&found, addresses),
+        _ => false,
     }
-    Ok(())
+}
+
+fn are_reached(alloc: Global, (linked, words, addresses): Reach) -> bool {
+    match image_of(alloc, words) {
+        Some(image) => image_reaches(alloc, linked, &image, addresses),
+        None => false,
+    }
 }
 
 /// The nodes of a branch and what it leads to: the number and the length of the instruction at
 /// each.
 static NODES: [(u32, u8); 4] = [(0x00050363, 4), (0x80820513, 4), (0x8082, 2), (RETURN, 4)];
 
-/// Whether these are the instructions of the nodes of its graph.
-fn nodes_are_right(alloc: Global) -> Option<bool> {
-    let g = graph(alloc, &[0x00050363, 0x80820513, RETURN])?;
-    if g.len() as usize != NODES.len() {
-        return Some(false);
-    }
+/// Whether these are the instructions of the nodes of a graph.
+fn nodes_are(g: &Graph) -> bool {
     for (n, &(number, length)) in NODES.iter().enumerate() {
         let n = n as u32;
         if n >= g.len() || g.number(n) != number || g.length(n) != length {
-            return Some(false);
+            return false;
         }
     }
-    Some(true)
+    g.len() as usize == NODES.len()
+}
+
+fn nodes_are_right(alloc: Global) -> bool {
+    match graph(alloc, &[0x00050363, 0x80820513, RETURN]) {
+        Some(g) => nodes_are(&g),
+        None => false,
+    }
 }
 
 #[test]
-fn numbers_and_lengths(rt: HostRuntime) {
-    assert!(rt; nodes_are_right(rt.alloc()) == Some(true));
+fn graphs_are_built(rt: HostRuntime) {
+    assert!(rt; each(rt.alloc(), &GRAPHS, has_nodes));
+    assert!(rt; each(rt.alloc(), &REACHED, are_reached));
+    assert!(rt; nodes_are_right(rt.alloc()));
 }
 
-/// The numbers of the fault of what is reached in a file with these words at 0x10000, if there is
-/// one.
-fn refusal(alloc: Global, words: &[u32], entry: u64) -> Option<(u32, u64, u64)> {
-    let image = image_of(alloc, words)?;
-    match build(alloc, &image, entry) {
+/// The numbers of the fault of what is reached from an entry, if there is one.
+fn refusal(alloc: Global, image: &Image, entry: u64) -> Option<(u32, u64, u64)> {
+    match build(alloc, image, entry) {
         Err(FlowFault::Outside(why)) => Some(numbers(&why)),
         _ => None,
     }
 }
 
-/// Programs at 0x10000, an entry, and the fault with its numbers.
-static FAULTS: [(&[u32], u64, (u32, u64, u64)); 24] = [
+/// A program at 0x10000, an entry, and the fault with its numbers.
+type Fault = (&'static [u32], u64, (u32, u64, u64));
+
+fn is_refused(alloc: Global, (words, entry, fault): Fault) -> bool {
+    match image_of(alloc, words) {
+        Some(image) => refusal(alloc, &image, entry) == Some(fault),
+        None => false,
+    }
+}
+
+static FAULTS: [Fault; 24] = [
     (&[ADD], 0x10000, (4, 0x10004, 0)),
     (&[RETURN], 0x20000, (4, 0x20000, 0)),
     (&[0x80820007, RETURN], 0x10000, (5, 0x10000, 0x80820007)),
@@ -271,26 +284,25 @@ static FAULTS: [(&[u32], u64, (u32, u64, u64)); 24] = [
     ),
 ];
 
-#[test]
-fn faults_are_told(rt: HostRuntime) -> Result<(), Fail> {
-    for &(words, entry, fault) in &FAULTS {
-        assert!(rt; refusal(rt.alloc(), words, entry) == Some(fault));
-    }
-    Ok(())
-}
-
-/// How many nodes the graph of so many times one word and then another has.
-fn length_of_repeated(alloc: Global, word: u32, count: usize, last: u32) -> Option<u32> {
-    let words = repeated(alloc, word, count, &[last])?;
-    match built(alloc, false, &words)? {
-        Ok(g) => Some(g.len()),
-        Err(FlowFault::Outside(Outside::TooLarge)) => Some(0),
-        Err(_) => None,
+/// How many nodes the graph of a program has; 0 where it is too large.
+fn length_of(alloc: Global, words: &[u32]) -> Option<u32> {
+    match built(alloc, false, words) {
+        Some(Ok(g)) => Some(g.len()),
+        Some(Err(FlowFault::Outside(Outside::TooLarge))) => Some(0),
+        _ => None,
     }
 }
 
-/// The longest programs, and programs with one address more; 0 stands for those that are too large.
-static LONG: [(u32, usize, u32, u32); 5] = [
+/// How often a word stands before another one, and the length of the graph.
+type Repeated = (u32, usize, u32, u32);
+
+fn has_length(alloc: Global, (word, count, last, length): Repeated) -> bool {
+    let words = repeated(alloc, word, count, &[last]);
+    length_of(alloc, &words) == Some(length)
+}
+
+/// The longest programs, and programs with one address more.
+static LONG: [Repeated; 5] = [
     (ADD, 1023, RETURN, 1024),
     (ADD, 1024, RETURN, 0),
     (TO_ITSELF, 1023, RETURN, 1024),
@@ -299,10 +311,7 @@ static LONG: [(u32, usize, u32, u32); 5] = [
 ];
 
 #[test]
-fn long_code_is_counted(rt: HostRuntime) -> Result<(), Fail> {
-    for &(word, count, last, length) in &LONG {
-        let found = length_of_repeated(rt.alloc(), word, count, last);
-        assert!(rt; found == Some(length));
-    }
-    Ok(())
+fn faults_and_lengths_are_told(rt: HostRuntime) {
+    assert!(rt; each(rt.alloc(), &FAULTS, is_refused));
+    assert!(rt; each(rt.alloc(), &LONG, has_length));
 }

@@ -36,14 +36,14 @@ pub fn graph(alloc: Global, words: &[u32]) -> Option<Graph> {
     built(alloc, false, words)?.ok()
 }
 
-/// So many times one word, and then others.
-pub fn repeated(alloc: Global, word: u32, count: usize, last: &[u32]) -> Option<Vec<u32>> {
+/// So many times one word, and then others, while there is memory.
+pub fn repeated(alloc: Global, word: u32, count: usize, last: &[u32]) -> Vec<u32> {
     let mut words = Vec::new(alloc);
     for _ in 0..count {
-        words.push(word).ok()?;
+        let _done = words.push(word);
     }
-    words.extend_from_slice(last).ok()?;
-    Some(words)
+    let _done = words.extend_from_slice(last);
+    words
 }
 
 /// The number of a fault, and its numbers.

@@ -1,12 +1,15 @@
 //! What no clause says: the stack accesses of worked programs.
 
 use super::programs::{RETURN, graph};
+use super::rows::each;
+use flow_graph::Graph;
 use stack_offsets::stack_accesses;
 use std::alloc::Global;
-use std::test::Fail;
 
-/// Programs at 0x10000, and of each node whether it is a stack access.
-static PROGRAMS: [(&[u32], &[bool]); 7] = [
+/// A program at 0x10000, and of each node whether it is a stack access.
+type Program = (&'static [u32], &'static [bool]);
+
+static PROGRAMS: [Program; 7] = [
     // addi x2, x2, -16; sd x10, 8(x2); ld x15, 8(x2); sd x15, 0(x11); addi x2, x2, 16
     (
         &[
@@ -48,17 +51,22 @@ static PROGRAMS: [(&[u32], &[bool]); 7] = [
     ),
 ];
 
-/// Whether these are told of the nodes of a program.
-fn are_told(alloc: Global, words: &[u32], accesses: &[bool]) -> Option<bool> {
-    let graph = graph(alloc, words)?;
-    let told = stack_accesses(alloc, &graph).ok()?;
-    Some(told.as_slice() == accesses)
+/// Whether these are told of the nodes of a graph.
+fn are_told(alloc: Global, graph: &Graph, accesses: &[bool]) -> bool {
+    match stack_accesses(alloc, graph) {
+        Ok(told) => told.as_slice() == accesses,
+        Err(_) => false,
+    }
+}
+
+fn has_accesses(alloc: Global, (words, accesses): Program) -> bool {
+    match graph(alloc, words) {
+        Some(graph) => are_told(alloc, &graph, accesses),
+        None => false,
+    }
 }
 
 #[test]
-fn stack_accesses_of_programs(rt: HostRuntime) -> Result<(), Fail> {
-    for &(words, accesses) in &PROGRAMS {
-        assert!(rt; are_told(rt.alloc(), words, accesses) == Some(true));
-    }
-    Ok(())
+fn stack_accesses_of_programs(rt: HostRuntime) {
+    assert!(rt; each(rt.alloc(), &PROGRAMS, has_accesses));
 }
