@@ -1,16 +1,25 @@
 -- The value of an application is told.
-use Rattle.std.proofs.Common.{◌≡◌, ℕ, List, map, cond, Option, Some, None, option_map, sym, ap, subst, ◌∙◌}
+use Rattle.std.proofs.Common.{◌≡◌, ℕ, true, List, [], ◌∷◌, map, cond, Option, Some, None, option_map, sym, ap, subst, ◌∙◌}
 use Rattle.std.specs.Prelude.{unwrap_or}
+use Rattle.std.specs.List.{AllByRecursion}
 use Rattle.smt_terms.specs.declared.sort.Sort.{Sort}
 use Rattle.smt_terms.specs.Operators.{Value, unsorted}
 use Rattle.smt_terms.specs.Meaning.{FunTree, no_names, fun_value, functions_after}
-use Rattle.smt_terms.specs.Sorts.{rule_of}
+use Rattle.smt_terms.specs.Sorts.{IsFun, IsParam, Rules, is_sort, rule_of}
 use Rattle.smt_values.specs.declared.datum.Datum.{Datum}
 use Rattle.smt_values.specs.declared.smt.Smt.{Smt}
 use Rattle.smt_values.specs.Values.{IsOfSort, smt_value_at, values_at, TellsOf, TellsValue}
 use Rattle.smt_values.specs.inner.Datum.{sort_of_datum, sorted, meaning, StandsFor}
 use Rattle.smt_values.specs.inner.Finding.{IsFound, IsMissing}
 use Rattle.smt_values.specs.inner.Taking.{TakesAll}
+
+params-sorts : (ps : List (List ℕ × Sort)) → AllByRecursion IsParam ps → AllByRecursion (λ p. is_sort p.1 ≡ true) ps
+params-sorts [] are = tt
+params-sorts (p ∷ ps) are = (are.0.1, params-sorts ps are.1)
+
+-- parameters are of sorts
+pub sorts_of_params : (fs : Rules) (f : FunTree) → IsFun fs f → AllByRecursion (λ p. is_sort p.1 ≡ true) f.params
+sorts_of_params fs f is = params-sorts f.params is.params
 
 pub value_missing : (funs : List FunTree) (name : List ℕ) (inputs : List Smt) → IsMissing funs name → TellsValue funs name inputs None
 value_missing funs name inputs h = subst (λ (o : Option FunTree). TellsOf o funs name inputs None) (sym h.named) tt
