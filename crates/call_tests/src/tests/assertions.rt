@@ -3,10 +3,10 @@
 ghost use Rattle.std.specs.Prelude.{◌≡◌, ◌<◌, ◌≤◌, ◌+◌, ◌^◌, IfOk, length, true};
 ghost use Rattle.rv_words.specs.Ranges.{AreRanges};
 
+use super::rows::each;
 use rv_words::{List, NoMemory, Range};
 use sep_assert::*;
 use std::alloc::Global;
-use std::test::Fail;
 use word_terms::{Code, Mem, Word};
 
 /// Code of one range.
@@ -50,18 +50,27 @@ fn is_small(at: u64, bytes: &[u8]) -> bool
 /// A range: its address and its bytes.
 type Piece = (u64, &'static [u8]);
 
+/// Two ranges, and those of both.
+type Join = (Piece, Piece, &'static [Piece]);
+
 /// Whether the codes of one range each agree, and are joined to these ranges.
-fn join_to(alloc: Global, first: Piece, second: Piece, joined: &[Piece]) -> Result<bool, NoMemory> {
+fn is_joined(alloc: Global, (first, second, joined): Join) -> bool {
     if !is_small(first.0, first.1) || !is_small(second.0, second.1) {
-        return Ok(false);
+        return false;
     }
-    let a = one_range(alloc, first.0, first.1)?;
-    let b = one_range(alloc, second.0, second.1)?;
+    let Ok(a) = one_range(alloc, first.0, first.1) else {
+        return false;
+    };
+    let Ok(b) = one_range(alloc, second.0, second.1) else {
+        return false;
+    };
     if !code_agree(&a, &b) {
-        return Ok(false);
+        return false;
     }
-    let both = code_join(alloc, &a, &b)?;
-    Ok(is_made_of(&both, joined) && are_within(&a, &b, &both))
+    match code_join(alloc, &a, &b) {
+        Ok(both) => is_made_of(&both, joined) && are_within(&a, &b, &both),
+        Err(_) => false,
+    }
 }
 
 fn are_within(a: &Code, b: &Code, both: &Code) -> bool {
@@ -75,7 +84,7 @@ const RETURN: &[u8] = &[0x67, 0x80, 0x00, 0x00];
 /// Both.
 const BOTH: &[u8] = &[0x33, 0x05, 0xb5, 0x00, 0x67, 0x80, 0x00, 0x00];
 
-static JOINED: [(Piece, Piece, &[Piece]); 4] = [
+static JOINED: [Join; 4] = [
     ((0x10000, ADD), (0x10004, RETURN), &[(0x10000, BOTH)]),
     ((0x10004, RETURN), (0x10000, ADD), &[(0x10000, BOTH)]),
     ((0x10000, BOTH), (0x10004, RETURN), &[(0x10000, BOTH)]),
@@ -86,28 +95,20 @@ static JOINED: [(Piece, Piece, &[Piece]); 4] = [
     ),
 ];
 
-#[test]
-fn codes_are_joined(rt: HostRuntime) -> Result<(), Fail> {
-    for &(first, second, joined) in &JOINED {
-        let is_so = join_to(rt.alloc(), first, second, joined)?;
-        assert!(rt; is_so);
-    }
-    Ok(())
-}
-
 /// Whether a byte agrees with those from 0x10000 on, and lies among them, as told, and is the same
 /// code as itself alone.
-fn compares_so(
-    alloc: Global,
-    (at, byte, agree, within): (u64, u8, bool, bool),
-) -> Result<bool, NoMemory> {
+fn compares_so(alloc: Global, (at, byte, agree, within): (u64, u8, bool, bool)) -> bool {
     if at >= 1 << 32 {
-        return Ok(false);
+        return false;
     }
-    let a = one_range(alloc, 0x10000, &[1, 2, 3])?;
-    let b = one_range(alloc, at, &[byte])?;
-    let is_same = same_code(&b, &b) && !same_code(&a, &b);
-    Ok(code_agree(&a, &b) == agree && code_within(&b, &a) == within && is_same)
+    let Ok(a) = one_range(alloc, 0x10000, &[1, 2, 3]) else {
+        return false;
+    };
+    let Ok(b) = one_range(alloc, at, &[byte]) else {
+        return false;
+    };
+    let is_same = same_code(&b, &b) & !same_code(&a, &b);
+    is_same & (code_agree(&a, &b) == agree) & (code_within(&b, &a) == within)
 }
 
 static COMPARED: [(u64, u8, bool, bool); 4] = [
@@ -118,25 +119,23 @@ static COMPARED: [(u64, u8, bool, bool); 4] = [
 ];
 
 #[test]
-fn codes_are_compared(rt: HostRuntime) -> Result<(), Fail> {
-    for &row in &COMPARED {
-        let is_so = compares_so(rt.alloc(), row)?;
-        assert!(rt; is_so);
-    }
-    Ok(())
+fn codes_are_joined_and_compared(rt: HostRuntime) {
+    assert!(rt; each(rt.alloc(), &JOINED, is_joined));
+    assert!(rt; each(rt.alloc(), &COMPARED, compares_so));
+    assert!(rt; many_are_compared(rt.alloc()));
 }
 
-/// The assertion that x10 holds a variable, at a program counter.
-fn assertion(alloc: Global, pc: u64, x10: u32, m: u32) -> Result<Assertion, NoMemory> {
+/// The assertion that x10 holds a variable, at a program counter, while there is memory.
+fn assertion(alloc: Global, pc: u64, x10: u32, m: u32) -> Assertion {
     let mut regs = List::new(alloc);
-    regs.push((10, Word::Var(x10)))?;
+    let _reg = regs.push((10, Word::Var(x10)));
     let mut mems = List::new(alloc);
-    mems.push(Mem::Var(m))?;
-    Ok(Assertion {
+    let _mem = mems.push(Mem::Var(m));
+    Assertion {
         pc: Word::Const(pc),
         regs,
         mems,
-    })
+    }
 }
 
 /// A program counter, a variable in x10 and a memory, and whether that is the assertion of 0x10000,
@@ -148,44 +147,34 @@ static ASSERTIONS: [(u64, u32, u32, bool); 4] = [
     (0x10000, 1, 1, false),
 ];
 
-fn is_same(alloc: Global, pc: u64, x10: u32, m: u32) -> Result<bool, NoMemory> {
-    let first = assertion(alloc, 0x10000, 1, 0)?;
-    let second = assertion(alloc, pc, x10, m)?;
-    Ok(same_assertion(&first, &second))
+fn is_same(alloc: Global, (pc, x10, m, same): (u64, u32, u32, bool)) -> bool {
+    let first = assertion(alloc, 0x10000, 1, 0);
+    let second = assertion(alloc, pc, x10, m);
+    same_assertion(&first, &second) == same
 }
 
 #[test]
-fn assertions_are_compared(rt: HostRuntime) -> Result<(), Fail> {
-    for &(pc, x10, m, same) in &ASSERTIONS {
-        let found = is_same(rt.alloc(), pc, x10, m)?;
-        assert!(rt; found == same);
-    }
-    Ok(())
+fn assertions_are_compared(rt: HostRuntime) {
+    assert!(rt; each(rt.alloc(), &ASSERTIONS, is_same));
 }
 
-/// Code of that many ranges of four bytes each.
-fn many_ranges(alloc: Global, count: u64) -> Result<Code, NoMemory> {
+/// Code of that many ranges of four bytes each, while there is memory.
+fn many_ranges(alloc: Global, count: u64) -> Code {
     let mut ranges = List::new(alloc);
     for i in 0..count {
-        let bytes = List::from_slice(alloc, &[0x13, 0, 0, 0])?;
+        let mut bytes = List::new(alloc);
+        let _bytes = bytes.extend_from_slice(&[0x13, 0, 0, 0]);
         let at = i.wrapping_mul(8);
-        ranges.push(Range { at, bytes })?;
+        let _range = ranges.push(Range { at, bytes });
     }
-    Ok(Code { ranges })
+    Code { ranges }
 }
 
 /// Whether codes of many ranges are compared as they should be, in time that grows as their length
 /// does.
-fn many_are_compared(alloc: Global) -> Result<bool, NoMemory> {
-    let some = many_ranges(alloc, 10_000)?;
-    let all = many_ranges(alloc, 20_000)?;
-    let is_within = code_within(&some, &all) && !code_within(&all, &some);
-    Ok(is_within && code_agree(&all, &some) && code_within_either(&all, &some, &all))
-}
-
-#[test]
-fn codes_of_many_ranges(rt: HostRuntime) -> Result<(), Fail> {
-    let is_so = many_are_compared(rt.alloc())?;
-    assert!(rt; is_so);
-    Ok(())
+fn many_are_compared(alloc: Global) -> bool {
+    let some = many_ranges(alloc, 10_000);
+    let all = many_ranges(alloc, 20_000);
+    let is_within = code_within(&some, &all) & !code_within(&all, &some);
+    is_within & code_agree(&all, &some) & code_within_either(&all, &some, &all)
 }

@@ -2,6 +2,7 @@
 //! numbers (`objdump -D -b binary -m riscv:rv64 -M no-aliases,numeric`), and words beside them that
 //! it doesn't know, or that it reads as instructions of other extensions.
 
+use super::rows::all;
 use rv_decode::*;
 use rv_words::{Cmp, Op, Width};
 
@@ -143,8 +144,11 @@ fn shown(i: Instr) -> (&'static str, [i32; 3]) {
     }
 }
 
+/// A word, its name and its operands.
+type Row = (u32, &'static str, [i32; 3]);
+
 /// Whether the word is the instruction that is shown so, and the instruction has that word.
-fn is_row(word: u32, name: &str, operands: [i32; 3]) -> bool {
+fn is_row((word, name, operands): Row) -> bool {
     match decode(word) {
         Some(i) => {
             let (name_shown, operands_shown) = shown(i);
@@ -154,33 +158,26 @@ fn is_row(word: u32, name: &str, operands: [i32; 3]) -> bool {
     }
 }
 
-#[test]
-fn words_with_a_row(rt: HostRuntime) {
-    for &(word, name, operands) in &ROWS {
-        assert!(rt; is_row(word, name, operands));
-    }
-    for &(word, operands) in &FENCES {
-        assert!(rt; is_row(word, "fence", operands));
-    }
+fn has_no_row(word: u32) -> bool {
+    decode(word).is_none()
 }
 
 #[test]
-fn words_without_a_row(rt: HostRuntime) {
-    for &word in &NO_ROWS {
-        assert!(rt; decode(word).is_none());
-    }
+fn words_have_their_rows(rt: HostRuntime) {
+    assert!(rt; all(&ROWS, is_row));
+    assert!(rt; all(&FENCES, is_row));
+    assert!(rt; all(&NO_ROWS, has_no_row));
 }
 
 /// Fences whose fields the disassembler doesn't know: any are allowed (section 2.7 of the manual).
-static FENCES: [(u32, [i32; 3]); 4] = [
-    (0x8330_000f, [0x833, 0, 0]),
-    (0x0000_000f, [0, 0, 0]),
-    (0x0ff2_888f, [0x0ff, 5, 17]),
-    (0xffff_8f8f, [0xfff, 31, 31]),
+static FENCES: [Row; 4] = [
+    (0x8330_000f, "fence", [0x833, 0, 0]),
+    (0x0000_000f, "fence", [0, 0, 0]),
+    (0x0ff2_888f, "fence", [0x0ff, 5, 17]),
+    (0xffff_8f8f, "fence", [0xfff, 31, 31]),
 ];
 
-/// Words, each with its name and its operands.
-static ROWS: [(u32, &str, [i32; 3]); 202] = [
+static ROWS: [Row; 202] = [
     (0x0069_87b3, "add", [15, 19, 6]),
     (0x0010_0fb3, "add", [31, 0, 1]),
     (0x009f_1cb3, "sll", [25, 30, 9]),

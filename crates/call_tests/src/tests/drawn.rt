@@ -2,13 +2,15 @@
 
 ghost use Rattle.std.specs.Prelude.{◌≤◌, ◌^◌, length};
 
+use super::rows::each;
 use code_gen::*;
-use rv_words::{List, NoMemory};
+use rv_words::List;
 use std::alloc::Global;
-use std::test::Fail;
 
 /// A number, a size, and the words of the program.
-static PROGRAMS: [(u64, u32, &'static [u32]); 9] = [
+type Drawn = (u64, u32, &'static [u32]);
+
+static PROGRAMS: [Drawn; 9] = [
     (0, 1, &[0x0015_0513, 0x0000_8067]),
     (0, 2, &[0x0025_0513, 0x0015_0513, 0x0000_8067]),
     (
@@ -133,7 +135,9 @@ static PROGRAMS: [(u64, u32, &'static [u32]); 9] = [
 ];
 
 /// A number, a size, how many words the program has, and their digest.
-static LONG_PROGRAMS: [(u64, u32, usize, u64); 4] = [
+type Long = (u64, u32, usize, u64);
+
+static LONG_PROGRAMS: [Long; 4] = [
     (7, 512, 699, 0xea2f_76ed_9103_25a8),
     (0, 600, 819, 0xfeef_fab9_9caf_6264),
     (0xffff_ffff_ffff_ffff, 600, 820, 0xc2c7_e36d_94d6_cfc1),
@@ -152,9 +156,11 @@ static FILE: [u8; 128] = [
     0x04, 0x00, 0x00, 0x00, 0x00, 0x00, 0x00, 0x00, 0x13, 0x05, 0x15, 0x00, 0x67, 0x80, 0x00, 0x00,
 ];
 
-fn is_program(alloc: Global, number: u64, size: u32, words: &[u32]) -> Result<bool, NoMemory> {
-    let found = program(alloc, number, size.min(600))?;
-    Ok(found.as_slice() == words)
+fn is_program(alloc: Global, (number, size, words): Drawn) -> bool {
+    match program(alloc, number, size.min(600)) {
+        Ok(found) => found.as_slice() == words,
+        Err(_) => false,
+    }
 }
 
 fn digest(words: &[u32]) -> u64 {
@@ -165,48 +171,33 @@ fn digest(words: &[u32]) -> u64 {
     digest
 }
 
-fn has_digest(
-    alloc: Global,
-    number: u64,
-    size: u32,
-    length: usize,
-    wanted: u64,
-) -> Result<bool, NoMemory> {
-    let found = program(alloc, number, size.min(600))?;
-    Ok(found.len() == length && digest(found.as_slice()) == wanted)
+fn has_digest(alloc: Global, (number, size, length, wanted): Long) -> bool {
+    match program(alloc, number, size.min(600)) {
+        Ok(found) => (found.len() == length) & (digest(found.as_slice()) == wanted),
+        Err(_) => false,
+    }
 }
 
-fn is_file(alloc: Global, words: &[u32], bytes: &[u8]) -> Result<bool, NoMemory>
+fn is_file(alloc: Global, words: &List<u32>, bytes: &[u8]) -> bool
     requires { length words.now ≤ 2 ^ 20 }
 {
-    let words = List::from_slice(alloc, words)?;
-    let found = elf_file(alloc, &words)?;
-    Ok(found.as_slice() == bytes)
-}
-
-#[test]
-fn programs_are_drawn(rt: HostRuntime) -> Result<(), Fail> {
-    let alloc = rt.alloc();
-    for &(number, size, words) in &PROGRAMS {
-        let found = is_program(alloc, number, size, words)?;
-        assert!(rt; found);
+    match elf_file(alloc, words) {
+        Ok(found) => found.as_slice() == bytes,
+        Err(_) => false,
     }
-    Ok(())
 }
 
-#[test]
-fn long_programs_are_drawn(rt: HostRuntime) -> Result<(), Fail> {
-    let alloc = rt.alloc();
-    for &(number, size, length, wanted) in &LONG_PROGRAMS {
-        let found = has_digest(alloc, number, size, length, wanted)?;
-        assert!(rt; found);
+/// Whether the first program has that file.
+fn has_file(alloc: Global) -> bool {
+    match program(alloc, 0, 1) {
+        Ok(words) if words.len() <= 1 << 20 => is_file(alloc, &words, &FILE),
+        _ => false,
     }
-    Ok(())
 }
 
 #[test]
-fn a_program_has_a_file(rt: HostRuntime) -> Result<(), Fail> {
-    let found = is_file(rt.alloc(), &[0x0015_0513, 0x0000_8067], &FILE)?;
-    assert!(rt; found);
-    Ok(())
+fn programs_are_drawn(rt: HostRuntime) {
+    assert!(rt; each(rt.alloc(), &PROGRAMS, is_program));
+    assert!(rt; each(rt.alloc(), &LONG_PROGRAMS, has_digest));
+    assert!(rt; has_file(rt.alloc()));
 }

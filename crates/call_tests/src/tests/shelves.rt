@@ -1,39 +1,43 @@
 //! What no clause says: that the calls succeed while there is memory, and what the adapters do.
 
+use super::rows::each;
 use mc_shelf::*;
-use rv_words::NoMemory;
+use rv_words::Bytes;
 use std::alloc::Global;
 use std::fs;
-use std::test::Fail;
 
-/// 200,000 bytes that differ from place to place.
-fn pattern(alloc: Global) -> Result<Vec<u8>, NoMemory> {
-    let mut bytes = Vec::new(alloc);
-    for i in 0..200_000usize {
-        bytes.push((i % 251) as u8)?;
+/// 200,000 bytes that differ from place to place, while there is memory.
+fn pattern(alloc: Global) -> Bytes {
+    let mut bytes = Bytes::new(alloc);
+    for i in 0..200_000u32 {
+        let _done = bytes.push((i % 251) as u8);
     }
-    Ok(bytes)
+    bytes
 }
+
+/// A name, a limit, and a call that fails.
+type Reading = (&'static str, u64, u64);
 
 /// Whether reading a file of these bytes ends so, where a call fails.
 fn ends_so(
     alloc: Global,
     whole: &[u8],
-    (name, limit, failing): (&str, u64, u64),
+    (name, limit, failing): Reading,
     end: Option<ReadEnd>,
-) -> Result<bool, NoMemory> {
+) -> bool {
     let mut shelf = MemShelf::new(alloc);
-    shelf.set("e", whole)?;
-    shelf.fail(failing, 0)?;
+    let is_held = shelf.set("e", whole).is_ok() & shelf.fail(failing, 0).is_ok();
     match read_file(alloc, &mut shelf, name, limit) {
-        Ok(bytes) => Ok(end.is_none() && bytes.as_slice() == whole),
-        Err(fault) => Ok(end == Some(fault)),
+        Ok(bytes) => is_held & end.is_none() & (bytes.as_slice() == whole),
+        Err(fault) => is_held & (end == Some(fault)),
     }
 }
 
 /// A name, a limit and a call that fails, and how reading 200,000 bytes ends: three whole pieces, a
 /// part of one, and nothing.
-static ENDS: [((&str, u64, u64), Option<ReadEnd>); 9] = [
+type Ending = (Reading, Option<ReadEnd>);
+
+static ENDS: [Ending; 9] = [
     (("e", 200_000, 5), None),
     (("e", u64::MAX, 5), None),
     (("e", 199_999, 9), Some(ReadEnd::TooLong)),
@@ -45,34 +49,28 @@ static ENDS: [((&str, u64, u64), Option<ReadEnd>); 9] = [
     (("f", 200_000, 9), Some(ReadEnd::Fault)),
 ];
 
-#[test]
-fn whole_files_are_read(rt: HostRuntime) -> Result<(), Fail> {
-    let whole = pattern(rt.alloc())?;
-    for &(read, end) in &ENDS {
-        let ended = ends_so(rt.alloc(), &whole, read, end)?;
-        assert!(rt; ended);
-    }
-    let ended = ends_so(rt.alloc(), &[], ("e", 0, 9), None)?;
-    assert!(rt; ended);
-    Ok(())
+fn pattern_ends_so(alloc: Global, (read, end): Ending) -> bool {
+    let whole = pattern(alloc);
+    ends_so(alloc, whole.as_slice(), read, end)
 }
 
 /// Whether measuring a file of these bytes ends so, where a call fails.
 fn measures_so(
     alloc: Global,
     whole: &[u8],
-    (name, limit, failing): (&str, u64, u64),
+    (name, limit, failing): Reading,
     end: Result<u64, MeasureEnd>,
-) -> Result<bool, NoMemory> {
+) -> bool {
     let mut shelf = MemShelf::new(alloc);
-    shelf.set("e", whole)?;
-    shelf.fail(failing, 0)?;
-    Ok(measure(&mut shelf, name, limit) == end)
+    let is_held = shelf.set("e", whole).is_ok() & shelf.fail(failing, 0).is_ok();
+    is_held & (measure(&mut shelf, name, limit) == end)
 }
 
 /// A name, a limit and a call that fails, and how measuring 200,000 bytes ends: 48 whole pieces, a
 /// part of one, and nothing.
-static MEASURES: [((&str, u64, u64), Result<u64, MeasureEnd>); 8] = [
+type Measured = (Reading, Result<u64, MeasureEnd>);
+
+static MEASURES: [Measured; 8] = [
     (("e", 200_000, 50), Ok(200_000)),
     (("e", u64::MAX, 50), Ok(200_000)),
     (("e", 199_999, 49), Err(MeasureEnd::TooLong)),
@@ -83,14 +81,9 @@ static MEASURES: [((&str, u64, u64), Result<u64, MeasureEnd>); 8] = [
     (("f", 200_000, 50), Err(MeasureEnd::Fault)),
 ];
 
-#[test]
-fn files_are_measured(rt: HostRuntime) -> Result<(), Fail> {
-    let whole = pattern(rt.alloc())?;
-    for &(read, end) in &MEASURES {
-        let ended = measures_so(rt.alloc(), &whole, read, end)?;
-        assert!(rt; ended);
-    }
-    Ok(())
+fn pattern_measures_so(alloc: Global, (read, end): Measured) -> bool {
+    let whole = pattern(alloc);
+    measures_so(alloc, whole.as_slice(), read, end)
 }
 
 /// Whether the next call gives these bytes, or nothing.
@@ -107,21 +100,21 @@ fn gives_line<S: Shelf>(
     }
 }
 
+/// Bytes, how many of them are given, and the lines of these.
+type Text = (&'static [u8], u64, &'static [&'static [u8]]);
+
 /// Whether the lines of these bytes, up to the size, are these, and then there is none.
-fn lines_are(alloc: Global, bytes: &[u8], size: u64, wanted: &[&[u8]]) -> Result<bool, NoMemory> {
+fn lines_are(alloc: Global, (bytes, size, wanted): Text) -> bool {
     let mut shelf = SureShelf::new(alloc);
-    shelf.set("e", bytes)?;
+    let mut is_so = shelf.set("e", bytes).is_ok();
     let mut lines = Lines::new("e", size);
     for &line in wanted {
-        if !gives_line(alloc, &mut lines, &mut shelf, Some(line)) {
-            return Ok(false);
-        }
+        is_so = is_so & gives_line(alloc, &mut lines, &mut shelf, Some(line));
     }
-    Ok(gives_line(alloc, &mut lines, &mut shelf, None))
+    is_so & gives_line(alloc, &mut lines, &mut shelf, None)
 }
 
-/// Bytes, how many of them are given, and the lines of these.
-static LINES: [(&[u8], u64, &[&[u8]]); 9] = [
+static LINES: [Text; 9] = [
     (b"", 9, &[]),
     (b"ab\n", 0, &[]),
     (b"ab\ncd\n", 6, &[b"ab\n", b"cd\n"]),
@@ -133,22 +126,13 @@ static LINES: [(&[u8], u64, &[&[u8]]); 9] = [
     (b"\n", 1, &[b"\n"]),
 ];
 
-#[test]
-fn lines_of_small_files_are_given(rt: HostRuntime) -> Result<(), Fail> {
-    for &(bytes, size, wanted) in &LINES {
-        let is_so = lines_are(rt.alloc(), bytes, size, wanted)?;
-        assert!(rt; is_so);
+/// A line of 10,001 bytes, and 5,000 bytes without a newline, while there is memory.
+fn two_lines(alloc: Global) -> Bytes {
+    let mut bytes = Bytes::new(alloc);
+    for i in 0..15_001u32 {
+        let _done = bytes.push(if i == 10_000 { b'\n' } else { b'x' });
     }
-    Ok(())
-}
-
-/// A line of 10,001 bytes, and 5,000 bytes without a newline.
-fn two_lines(alloc: Global) -> Result<Vec<u8>, NoMemory> {
-    let mut bytes = Vec::new(alloc);
-    for i in 0..15_001usize {
-        bytes.push(if i == 10_000 { b'\n' } else { b'x' })?;
-    }
-    Ok(bytes)
+    bytes
 }
 
 /// Whether the next call gives nothing, or this refusal.
@@ -165,33 +149,35 @@ fn gives_end(
     }
 }
 
-/// Whether the lines of a file have these lengths up to their end or a refusal, which stays, where
-/// a call fails.
-fn lengths_are(
-    alloc: Global,
-    whole: &[u8],
-    (name, size, failing): (&str, u64, u64),
-    lengths: &[usize],
-    end: Option<LineFault>,
-) -> Result<bool, NoMemory> {
-    let mut shelf = MemShelf::new(alloc);
-    shelf.set("e", whole)?;
-    shelf.fail(failing, 0)?;
-    let mut lines = Lines::new(name, size);
-    for &length in lengths {
-        match lines.next(alloc, &mut shelf) {
-            Ok(Some(line)) if line.len() == length => {}
-            _ => return Ok(false),
-        }
-    }
-    let first = gives_end(alloc, &mut lines, &mut shelf, end);
-    shelf.set(name, whole)?;
-    Ok(first && gives_end(alloc, &mut lines, &mut shelf, end))
-}
-
 /// A name, a size and a call that fails; how long the lines are that are given of the two; and what
 /// comes behind them.
-static LENGTHS: [((&str, u64, u64), &[usize], Option<LineFault>); 8] = [
+type Given = (Reading, &'static [usize], Option<LineFault>);
+
+/// Whether the lines of a file have these lengths up to their end or a refusal, which stays, where
+/// a call fails.
+fn lengths_are(alloc: Global, ((name, size, failing), lengths, end): Given) -> bool {
+    let whole = two_lines(alloc);
+    let whole = whole.as_slice();
+    let mut shelf = MemShelf::new(alloc);
+    let mut is_so = shelf.set("e", whole).is_ok() & shelf.fail(failing, 0).is_ok();
+    let mut lines = Lines::new(name, size);
+    for &length in lengths {
+        is_so = is_so & (next_length(alloc, &mut lines, &mut shelf) == Some(length));
+    }
+    let first = gives_end(alloc, &mut lines, &mut shelf, end);
+    let is_held = shelf.set(name, whole).is_ok();
+    is_so & is_held & first & gives_end(alloc, &mut lines, &mut shelf, end)
+}
+
+/// How long the next line is, if there is one.
+fn next_length(alloc: Global, lines: &mut Lines<'_>, shelf: &mut MemShelf) -> Option<usize> {
+    match lines.next(alloc, shelf) {
+        Ok(Some(line)) => Some(line.len()),
+        _ => None,
+    }
+}
+
+static LENGTHS: [Given; 8] = [
     (("e", 15_001, 4), &[10_001, 5_000], None),
     (("e", u64::MAX, 5), &[10_001, 5_000], None),
     (("e", 10_000, 3), &[10_000], None),
@@ -202,51 +188,61 @@ static LENGTHS: [((&str, u64, u64), &[usize], Option<LineFault>); 8] = [
     (("f", u64::MAX, 9), &[], Some(LineFault::Fault)),
 ];
 
-#[test]
-fn long_lines_are_given_or_refused(rt: HostRuntime) -> Result<(), Fail> {
-    let whole = two_lines(rt.alloc())?;
-    for &(read, lengths, end) in &LENGTHS {
-        let is_so = lengths_are(rt.alloc(), &whole, read, lengths, end)?;
-        assert!(rt; is_so);
+/// How long the next line is, if it is what stands from a place on.
+fn length_at(
+    alloc: Global,
+    lines: &mut Lines<'_>,
+    shelf: &mut MemShelf,
+    whole: &[u8],
+    at: usize,
+) -> Option<usize> {
+    match lines.next(alloc, shelf) {
+        Ok(Some(line)) if at <= whole.len() && whole[at..].starts_with(line.as_slice()) => {
+            Some(line.len())
+        }
+        _ => None,
     }
-    Ok(())
 }
 
-/// How many lines of the pattern are given, and how many bytes these have, where the file holds
-/// other bytes from the second call on. No number where a line isn't what stands next.
-fn lines_given(
-    alloc: Global,
-    whole: &[u8],
-    later: &[u8],
-) -> Result<Option<(usize, usize)>, NoMemory> {
+/// How many lines of the pattern are given up to one that isn't what stands next, and how many
+/// bytes these have, where the file holds other bytes from the second call on.
+fn lines_given(alloc: Global, whole: &[u8], later: &[u8]) -> (usize, usize) {
     let mut shelf = MemShelf::new(alloc);
-    shelf.set("e", whole)?;
+    let _is_held = shelf.set("e", whole);
     let mut lines = Lines::new("e", u64::MAX);
     let (mut count, mut at) = (0usize, 0usize);
     for _ in 0..1_000 {
-        let Ok(Some(line)) = lines.next(alloc, &mut shelf) else {
-            return Ok(Some((count, at)));
+        let Some(length) = length_at(alloc, &mut lines, &mut shelf, whole, at) else {
+            break;
         };
-        if at > whole.len() || !whole[at..].starts_with(line.as_slice()) {
-            return Ok(None);
-        }
-        at = at.saturating_add(line.len());
+        at = at.saturating_add(length);
         count = count.saturating_add(1);
-        shelf.set("e", later)?;
+        let _is_held = shelf.set("e", later);
     }
-    Ok(None)
+    (count, at)
 }
 
 /// The pattern has 797 newlines, 17 of them in its first 4,096 bytes. A file that shrinks ends
 /// where the shelf gives nothing.
+fn lines_follow(alloc: Global) -> bool {
+    let whole = pattern(alloc);
+    let whole = whole.as_slice();
+    let all = lines_given(alloc, whole, whole) == (798, 200_000);
+    all & (lines_given(alloc, whole, b"abc") == (18, 4_096))
+}
+
 #[test]
-fn lines_follow_each_other(rt: HostRuntime) -> Result<(), Fail> {
-    let whole = pattern(rt.alloc())?;
-    let all = lines_given(rt.alloc(), &whole, &whole)?;
-    assert!(rt; all == Some((798, 200_000)));
-    let front = lines_given(rt.alloc(), &whole, b"abc")?;
-    assert!(rt; front == Some((18, 4_096)));
-    Ok(())
+fn whole_files_are_read_and_measured(rt: HostRuntime) {
+    assert!(rt; each(rt.alloc(), &ENDS, pattern_ends_so));
+    assert!(rt; ends_so(rt.alloc(), &[], ("e", 0, 9), None));
+    assert!(rt; each(rt.alloc(), &MEASURES, pattern_measures_so));
+}
+
+#[test]
+fn lines_are_given_or_refused(rt: HostRuntime) {
+    assert!(rt; each(rt.alloc(), &LINES, lines_are));
+    assert!(rt; each(rt.alloc(), &LENGTHS, lengths_are));
+    assert!(rt; lines_follow(rt.alloc()));
 }
 
 /// A call on a shelf, and what it gives: whether it succeeds, or up to four bytes that are read.
@@ -317,16 +313,17 @@ static CALLS: [Call; 13] = [
 /// Calls that fail on no file.
 static NO_FILE: [Call; 2] = [Call::Read(0, None), Call::Append(b"abc", false)];
 
+/// Further calls, in memory.
+static LAST_CALLS: [Call; 2] = [Call::Append(b"xyz", true), Call::Read(u64::MAX, Some(b""))];
+
 /// Whether a shelf in memory gives that, and another name holds what it held.
-fn memory_gives(alloc: Global) -> Result<bool, NoMemory> {
+fn memory_gives(alloc: Global) -> bool {
     let mut shelf = MemShelf::new(alloc);
-    shelf.set("q", b"other")?;
-    let is_so = all_give(&mut shelf, "p", &CALLS);
-    let end = [Call::Append(b"xyz", true), Call::Read(u64::MAX, Some(b""))];
-    let is_so = is_so && all_give(&mut shelf, "p", &end);
+    let is_held = shelf.set("q", b"other").is_ok();
+    let is_so = all_give(&mut shelf, "p", &CALLS) & all_give(&mut shelf, "p", &LAST_CALLS);
     let p = shelf.held("p") == Some(b"xyz".as_slice());
     let q = shelf.held("q") == Some(b"other".as_slice());
-    Ok(is_so && p && q)
+    is_held & is_so & p & q
 }
 
 /// What fails on a shelf where the second call, an append, keeps a part.
@@ -338,40 +335,37 @@ static FAILING: [Call; 3] = [
 
 /// Whether the second call, an append, fails with so many bytes kept and the third, a create, fails
 /// too.
-fn fails_on_a_shelf(alloc: Global, kept: u64, left: &[u8]) -> Result<bool, NoMemory> {
+fn fails_on_a_shelf(alloc: Global, kept: u64, left: &[u8]) -> bool {
     let mut shelf = MemShelf::new(alloc);
-    shelf.set("p", b"x")?;
-    for call in [1, 0, 2] {
-        shelf.fail(call, kept)?;
-    }
-    shelf.fail(1, 2)?;
-    Ok(all_give(&mut shelf, "p", &FAILING) && shelf.held("p") == Some(left))
+    let is_held = shelf.set("p", b"x").is_ok() & shelf.fail(1, kept).is_ok();
+    let fails = shelf.fail(0, kept).is_ok() & shelf.fail(2, kept).is_ok();
+    let is_set = is_held & fails & shelf.fail(1, 2).is_ok();
+    is_set & all_give(&mut shelf, "p", &FAILING) & (shelf.held("p") == Some(left))
 }
 
 /// Whether the second call, a put, fails with so many bytes kept, and the next one doesn't.
-fn fails_on_a_sink(alloc: Global, kept: u64, left: &[u8]) -> Result<bool, NoMemory> {
+fn fails_on_a_sink(alloc: Global, kept: u64, left: &[u8]) -> bool {
     let mut sink = MemSink::new(alloc);
-    sink.fail(1, kept)?;
-    sink.fail(1, 2)?;
+    let is_set = sink.fail(1, kept).is_ok() & sink.fail(1, 2).is_ok();
     let first = sink.put(b"x") == Ok(());
     let second = sink.put(b"abc") == Err(Stop::Failed);
     let third = sink.put(b"") == Ok(());
-    Ok(first && second && third && sink.written() == left)
+    is_set & first & second & third & (sink.written() == left)
 }
 
 /// How many bytes are kept, and what is left then.
-static KEPT: [(u64, &[u8]); 4] = [(0, b"x"), (1, b"xa"), (3, b"xabc"), (u64::MAX, b"xabc")];
+type Kept = (u64, &'static [u8]);
+
+static KEPT: [Kept; 4] = [(0, b"x"), (1, b"xa"), (3, b"xabc"), (u64::MAX, b"xabc")];
+
+fn fails_so(alloc: Global, (kept, left): Kept) -> bool {
+    fails_on_a_shelf(alloc, kept, left) & fails_on_a_sink(alloc, kept, left)
+}
 
 #[test]
-fn calls_in_memory_are_answered_or_fail(rt: HostRuntime) -> Result<(), Fail> {
-    let is_so = memory_gives(rt.alloc())?;
-    assert!(rt; is_so);
-    for &(kept, left) in &KEPT {
-        let shelf_fails = fails_on_a_shelf(rt.alloc(), kept, left)?;
-        let sink_fails = fails_on_a_sink(rt.alloc(), kept, left)?;
-        assert!(rt; shelf_fails && sink_fails);
-    }
-    Ok(())
+fn calls_in_memory_are_answered_or_fail(rt: HostRuntime) {
+    assert!(rt; memory_gives(rt.alloc()));
+    assert!(rt; each(rt.alloc(), &KEPT, fails_so));
 }
 
 /// Calls on a name that was never given, where none is missing.
@@ -385,24 +379,25 @@ static SURE_CALLS: [Call; 6] = [
 ];
 
 /// Whether a sure shelf gives that, and another name holds what it was given.
-fn sure_shelf_gives(alloc: Global) -> Result<bool, NoMemory> {
+fn sure_shelf_gives(alloc: Global) -> bool {
     let mut shelf = SureShelf::new(alloc);
-    shelf.set("q", b"other")?;
+    let is_held = shelf.set("q", b"other").is_ok();
     let is_so = all_give(&mut shelf, "p", &SURE_CALLS);
     let p = shelf.held("p") == b"x".as_slice();
     let q = shelf.held("q") == b"other".as_slice();
-    Ok(is_so && p && q && shelf.held("r").is_empty())
+    is_held & is_so & p & q & shelf.held("r").is_empty()
+}
+
+fn sure_sink_takes(alloc: Global) -> bool {
+    let mut sink = SureSink::new(alloc);
+    let is_taken = sink.put(b"ab").is_ok() & sink.put(b"c").is_ok();
+    is_taken & (sink.written() == b"abc".as_slice())
 }
 
 #[test]
-fn sure_calls_never_fail(rt: HostRuntime) -> Result<(), Fail> {
-    let is_so = sure_shelf_gives(rt.alloc())?;
-    assert!(rt; is_so);
-    let mut sink = SureSink::new(rt.alloc());
-    assert!(rt;
-        sink.put(b"ab").is_ok() && sink.put(b"c").is_ok() && sink.written() == b"abc".as_slice()
-    );
-    Ok(())
+fn sure_calls_never_fail(rt: HostRuntime) {
+    assert!(rt; sure_shelf_gives(rt.alloc()));
+    assert!(rt; sure_sink_takes(rt.alloc()));
 }
 
 /// Whether reading the file to its end gives these bytes.
@@ -421,46 +416,72 @@ fn is_one_line<S: Shelf>(alloc: Global, shelf: &mut S, name: &str, bytes: &[u8])
     size && line && gives_line(alloc, &mut lines, shelf, None)
 }
 
+/// The name of a file that the tests make.
+const NAME: &str = "mc_shelf_test_file";
+
+/// Whether a file is made, read and measured.
+fn file_is_made<S: Shelf>(alloc: Global, shelf: &mut S) -> bool {
+    let is_made = all_give(shelf, NAME, &CALLS);
+    let is_held = gives(shelf, NAME, Call::Append(b"abcdef", true));
+    let is_read = file_is(alloc, shelf, NAME, b"abcdef");
+    is_made & is_held & is_read & is_one_line(alloc, shelf, NAME, b"abcdef")
+}
+
 /// Calls on a file that was removed while it was open.
 static REMOVED: [Call; 2] = [Call::Append(b"abc", true), Call::Read(0, Some(b"abcd"))];
 
-#[test]
-fn the_system_has_files(rt: HostRuntime) -> Result<(), Fail> {
-    let name = "mc_shelf_test_file";
-    let mut shelf = DirShelf::new(&rt);
-    assert!(rt; all_give(&mut shelf, name, &CALLS));
-    assert!(rt; gives(&mut shelf, name, Call::Append(b"abcdef", true)));
-    assert!(rt; file_is(rt.alloc(), &mut shelf, name, b"abcdef"));
-    assert!(rt; is_one_line(rt.alloc(), &mut shelf, name, b"abcdef"));
-    fs::remove_file(&rt, name)?;
-    assert!(rt; all_give(&mut shelf, name, &REMOVED));
-    for name in [name, ".", ""] {
-        let mut shelf = DirShelf::new(&rt);
-        assert!(rt; all_give(&mut shelf, name, &NO_FILE));
-    }
-    assert!(rt; gives(&mut shelf, ".", Call::Create(false)));
-    Ok(())
+/// Whether three names that are no file, the one of the file that was removed among them, fail.
+fn there_is_no_file<S: Shelf>(shelf: &mut S) -> bool {
+    let is_removed = all_give(shelf, NAME, &NO_FILE);
+    is_removed & all_give(shelf, ".", &NO_FILE) & all_give(shelf, "", &NO_FILE)
 }
 
 #[test]
-fn each_name_takes_what_is_its_own(rt: HostRuntime) -> Result<(), Fail> {
-    let (first, second) = ("mc_shelf_test_first", "mc_shelf_test_second");
+fn the_system_has_files(rt: HostRuntime) {
     let mut shelf = DirShelf::new(&rt);
-    assert!(rt; gives(&mut shelf, first, Call::Create(true)));
-    assert!(rt; gives(&mut shelf, first, Call::Append(b"abc", true)));
-    assert!(rt; gives(&mut shelf, second, Call::Create(true)));
-    assert!(rt; gives(&mut shelf, first, Call::Append(b"def", true)));
-    assert!(rt; gives(&mut shelf, second, Call::Append(b"xy", true)));
-    assert!(rt; file_is(rt.alloc(), &mut shelf, first, b"abcdef"));
-    assert!(rt; file_is(rt.alloc(), &mut shelf, second, b"xy"));
-    assert!(rt; file_is(rt.alloc(), &mut shelf, first, b"abcdef"));
-    fs::remove_file(&rt, first)?;
-    fs::remove_file(&rt, second)?;
-    Ok(())
+    let is_made = file_is_made(rt.alloc(), &mut shelf);
+    let is_removed = fs::remove_file(&rt, NAME).is_ok();
+    let is_open = all_give(&mut shelf, NAME, &REMOVED);
+    let is_refused = gives(&mut shelf, ".", Call::Create(false));
+    let mut other = DirShelf::new(&rt);
+    assert!(rt; is_made & is_removed & is_open & is_refused & there_is_no_file(&mut other));
+}
+
+/// The names of two files that the tests make.
+const FIRST: &str = "mc_shelf_test_first";
+
+const SECOND: &str = "mc_shelf_test_second";
+
+/// Names, and calls on them.
+static BOTH: [(&str, Call); 5] = [
+    (FIRST, Call::Create(true)),
+    (FIRST, Call::Append(b"abc", true)),
+    (SECOND, Call::Create(true)),
+    (FIRST, Call::Append(b"def", true)),
+    (SECOND, Call::Append(b"xy", true)),
+];
+
+/// Whether each of two names takes what is its own.
+fn both_take<S: Shelf>(alloc: Global, shelf: &mut S) -> bool {
+    let mut is_so = true;
+    for &(name, call) in &BOTH {
+        is_so = is_so & gives(shelf, name, call);
+    }
+    let first = file_is(alloc, shelf, FIRST, b"abcdef");
+    let second = file_is(alloc, shelf, SECOND, b"xy");
+    is_so & first & second & file_is(alloc, shelf, FIRST, b"abcdef")
+}
+
+#[test]
+fn each_name_takes_what_is_its_own(rt: HostRuntime) {
+    let mut shelf = DirShelf::new(&rt);
+    let is_so = both_take(rt.alloc(), &mut shelf);
+    let first = fs::remove_file(&rt, FIRST).is_ok();
+    assert!(rt; is_so & first & fs::remove_file(&rt, SECOND).is_ok());
 }
 
 #[test]
 fn the_system_has_an_output(rt: HostRuntime) {
     let mut sink = OutSink::new(&rt);
-    assert!(rt; sink.put(b"output\n").is_ok() && sink.put(b"").is_ok());
+    assert!(rt; sink.put(b"output\n").is_ok() & sink.put(b"").is_ok());
 }

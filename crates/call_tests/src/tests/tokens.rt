@@ -1,11 +1,14 @@
 //! What no clause says: that calls succeed while there is memory. The texts are written by hand.
 
+use super::rows::{all, each};
 use mc_text::*;
-use rv_words::{Bytes, NoMemory};
+use rv_words::Bytes;
 use std::alloc::Global;
 
-/// Texts, their tokens, and the line of the first place at which no token begins, if there is one.
-static TEXTS: [(&[u8], &[Token<'static>], Option<u64>); 18] = [
+/// A text, its tokens, and the line of the first place at which no token begins, if there is one.
+type Text = (&'static [u8], &'static [Token<'static>], Option<u64>);
+
+static TEXTS: [Text; 18] = [
     (b"", &[], None),
     (b"\n", &[Token::Eol], None),
     (b"\n\n", &[Token::Eol, Token::Eol], None),
@@ -53,7 +56,7 @@ static TEXTS: [(&[u8], &[Token<'static>], Option<u64>); 18] = [
 
 /// Whether the text has these tokens, and then a place where no token begins or its end, however
 /// often one asks.
-fn scans_as(text: &[u8], tokens: &[Token<'_>], bad: Option<u64>) -> bool {
+fn scans_as((text, tokens, bad): Text) -> bool {
     let mut scan = Scan::new(text);
     for token in tokens {
         match scan.next() {
@@ -72,13 +75,13 @@ fn scans_as(text: &[u8], tokens: &[Token<'_>], bad: Option<u64>) -> bool {
 
 #[test]
 fn texts_have_their_tokens(rt: HostRuntime) {
-    for &(text, tokens, bad) in &TEXTS {
-        assert!(rt; scans_as(text, tokens, bad));
-    }
+    assert!(rt; all(&TEXTS, scans_as));
 }
 
-/// Atoms, and the number that each spells in decimal and in hexadecimal digits.
-static NUMBERS: [(&[u8], Option<u64>, Option<u64>); 17] = [
+/// An atom, and the number that it spells in decimal and in hexadecimal digits.
+type Atom = (&'static [u8], Option<u64>, Option<u64>);
+
+static NUMBERS: [Atom; 17] = [
     (b"0", Some(0), None),
     (b"10", Some(10), None),
     (b"18446744073709551615", Some(u64::MAX), None),
@@ -98,15 +101,14 @@ static NUMBERS: [(&[u8], Option<u64>, Option<u64>); 17] = [
     (b"0x10000000000000000", None, None),
 ];
 
-#[test]
-fn atoms_spell_their_numbers(rt: HostRuntime) {
-    for &(atom, decimal, hexadecimal) in &NUMBERS {
-        assert!(rt; dec(atom) == decimal && hexnum(atom) == hexadecimal);
-    }
+fn spells_numbers((atom, decimal, hexadecimal): Atom) -> bool {
+    dec(atom) == decimal && hexnum(atom) == hexadecimal
 }
 
-/// Atoms, and the bytes that each spells.
-static BYTES: [(&[u8], Option<&[u8]>); 7] = [
+/// An atom, and the bytes that it spells.
+type Digits = (&'static [u8], Option<&'static [u8]>);
+
+static BYTES: [Digits; 7] = [
     (b"00", Some(&[0])),
     (b"0fa0", Some(&[15, 160])),
     (b"", None),
@@ -117,7 +119,7 @@ static BYTES: [(&[u8], Option<&[u8]>); 7] = [
 ];
 
 /// Whether the atom spells these bytes, or none.
-fn spells(alloc: Global, atom: &[u8], bytes: Option<&[u8]>) -> bool {
+fn spells_bytes(alloc: Global, (atom, bytes): Digits) -> bool {
     match (hex_bytes(alloc, atom), bytes) {
         (Ok(Some(found)), Some(bytes)) => found.as_slice() == bytes,
         (Ok(None), None) => true,
@@ -126,43 +128,47 @@ fn spells(alloc: Global, atom: &[u8], bytes: Option<&[u8]>) -> bool {
 }
 
 #[test]
-fn atoms_spell_their_bytes(rt: HostRuntime) {
-    for &(atom, bytes) in &BYTES {
-        assert!(rt; spells(rt.alloc(), atom, bytes));
-    }
+fn atoms_spell_numbers_and_bytes(rt: HostRuntime) {
+    assert!(rt; all(&NUMBERS, spells_numbers));
+    assert!(rt; each(rt.alloc(), &BYTES, spells_bytes));
 }
 
-/// Puts an atom, numbers and bytes.
-fn put_some(out: &mut Bytes) -> Result<(), NoMemory> {
-    put_atom(out, b"a ")?;
-    put_dec(out, u64::MAX)?;
-    put_atom(out, b" ")?;
-    put_hex(out, 0x30_00f0)?;
-    put_bytes(out, &[])?;
-    put_bytes(out, &[0, 0xfe])
+/// Whether an atom, numbers and bytes are put at the end.
+fn some_are_put(alloc: Global) -> bool {
+    let mut out = Bytes::new(alloc);
+    let word = put_atom(&mut out, b"a ").is_ok() & put_dec(&mut out, u64::MAX).is_ok();
+    let number = put_atom(&mut out, b" ").is_ok() & put_hex(&mut out, 0x30_00f0).is_ok();
+    let bytes = put_bytes(&mut out, &[]).is_ok() & put_bytes(&mut out, &[0, 0xfe]).is_ok();
+    let is_text = out.as_slice() == b"a 18446744073709551615 0x3000f000fe".as_slice();
+    word & number & bytes & is_text
 }
 
-#[test]
-fn what_is_put_stands_at_the_end(rt: HostRuntime) {
-    let mut out = Bytes::new(rt.alloc());
-    assert!(rt; put_some(&mut out).is_ok());
-    assert!(rt; out.as_slice() == b"a 18446744073709551615 0x3000f000fe".as_slice());
+/// Whether numbers stand at the front in decimal digits.
+fn decimals_stand() -> bool {
+    let mut digits = [b'.'; 20];
+    let small = (dec_into(407, &mut digits) == 3) & digits.starts_with(b"407.");
+    small & (dec_into(u64::MAX, &mut digits) == 20) & digits.ends_with(b"615")
 }
 
-#[test]
-fn numbers_stand_at_the_front(rt: HostRuntime) {
-    let mut decimal = [b'.'; 20];
-    let mut hexadecimal = [b'.'; 18];
-    assert!(rt; dec_into(407, &mut decimal) == 3 && decimal.starts_with(b"407."));
-    assert!(rt; hex_into(0, &mut hexadecimal) == 3 && hexadecimal.starts_with(b"0x0."));
-    assert!(rt; dec_into(u64::MAX, &mut decimal) == 20 && decimal.ends_with(b"615"));
-    assert!(rt; hex_into(u64::MAX, &mut hexadecimal) == 18 && hexadecimal.ends_with(b"fff"));
+/// .. in hexadecimal digits.
+fn hexadecimals_stand() -> bool {
+    let mut digits = [b'.'; 18];
+    let small = (hex_into(0, &mut digits) == 3) & digits.starts_with(b"0x0.");
+    small & (hex_into(u64::MAX, &mut digits) == 18) & digits.ends_with(b"fff")
 }
 
-#[test]
-fn a_fork_goes_on_by_itself(rt: HostRuntime) {
+/// Whether a fork goes on by itself.
+fn a_fork_goes_on() -> bool {
     let mut scan = Scan::new(b"a b\n");
     let mut fork = scan.fork();
-    assert!(rt; fork.next() == Ok(Token::Atom(b"a")) && fork.rest() == b" b\n".as_slice());
-    assert!(rt; scan.rest() == b"a b\n".as_slice() && scan.next() == Ok(Token::Atom(b"a")));
+    let first = (fork.next() == Ok(Token::Atom(b"a"))) & (fork.rest() == b" b\n".as_slice());
+    let rest = scan.rest() == b"a b\n".as_slice();
+    first & rest & (scan.next() == Ok(Token::Atom(b"a")))
+}
+
+#[test]
+fn what_is_put_stands_in_its_place(rt: HostRuntime) {
+    assert!(rt; some_are_put(rt.alloc()));
+    assert!(rt; decimals_stand() & hexadecimals_stand());
+    assert!(rt; a_fork_goes_on());
 }
