@@ -14,7 +14,7 @@ use std::alloc::Global;
 
 /// The value of the script's function of that name on these inputs. It is none exactly where no
 /// function has the name, or where the inputs aren't of its parameters' sorts.
-#[tactic(auto, using(crate::proofs::Applications::sorts_of_params, crate::proofs::Applications::value_missing, crate::proofs::Applications::value_unfit, crate::proofs::Applications::value_told))]
+#[tactic(auto, using(crate::proofs::Applications::value_missing, crate::proofs::Applications::value_unfit, crate::proofs::Applications::value_told))]
 pub fn value_of(
     alloc: Global,
     s: &Script,
