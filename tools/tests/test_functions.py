@@ -118,7 +118,7 @@ class OfAProgram(unittest.TestCase):
         shutil.copy(GCD / "gcd.elf", self.folder.name)
         status, out, errors = self.say("gcd.elf", "o.proof", "--jobs", "1")
         self.assertEqual((status, errors), (0, ""))
-        self.assertEqual(out, "0x11120  gcd                           7 instructions, 5 definitions\n\n1 functions, 1 decompiled, 0 refused\no.proof: accepted 1 113\n")
+        self.assertEqual(out, "0x11120  gcd                           7 instructions, 5 definitions\n\n1 functions, 1 decompiled, 0 refused\no.proof: accepted 1 95\n")
         with open(os.path.join(self.folder.name, "o.proof"), "rb") as file:
             self.assertEqual(file.read(), (GCD / "gcd.proof").read_bytes())
 
