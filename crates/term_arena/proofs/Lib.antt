@@ -4,5 +4,6 @@ pub mod CrowdedLemmas
 pub mod PlaceLemmas
 pub mod TreeNodes
 pub mod TreeLemmas
+pub mod DepthLemmas
 pub mod PutLemmas
 pub mod PutOrder

@@ -19,6 +19,10 @@ fold-trees : (ts : List Tree) (ns : List Node) → (rest : List Tree) × (fold w
 fold-trees ts [] = ([], sym (append-nil ts))
 fold-trees ts (n ∷ ns) = let h = fold-trees (with_tree ts n) ns in (tree_over ts n ∷ h.0, h.1 ∙ append_assoc ts (tree_over ts n ∷ []) h.0)
 
+pub trees-none : trees_of [] ≡ []
+unfolding trees_of
+trees-none = refl
+
 pub trees-push : (ns : List Node) (n : Node) → trees_of (ns ++ n ∷ []) ≡ with_tree (trees_of ns) n
 unfolding trees_of
 trees-push ns n = fold-append with_tree [] ns (n ∷ [])
@@ -125,7 +129,7 @@ children_of-node ns k n a e =
 pub number_within : (ns : List Node) (k : ℕ) (x : Tree) → tree_of ns k ≡ Some x → k < length ns
 number_within ns k x e = let h = slice_get_within (trees_of ns) k x e in omega (arith, length-trees ns)
 
-children_below : (ns : List Node) (n : Node) → AreChildren ns n → AreBelow (length ns) n
+pub children_below : (ns : List Node) (n : Node) → AreChildren ns n → AreBelow (length ns) n
 children_below ns (node.Const n) h = tt
 children_below ns (node.WordVar i) h = tt
 children_below ns (node.Bin op a b) h = (number_within ns a _ h.0, number_within ns b _ h.1)

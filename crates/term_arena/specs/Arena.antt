@@ -1,6 +1,7 @@
 -- What the numbers of an arena stand for. A node's children have numbers below its own, so each tree is made of earlier ones.
-use Rattle.std.specs.Prelude.{◌≡◌, ◌⊎◌, ℕ, ◌+◌, ◌<◌, List, [], ◌∷◌, ◌++◌, Option, Some, fold, length, slice_get, take, Contains}
-use Rattle.word_terms.specs.Tree.{WordTree, MemTree, CondTree, Const, Var, Bin, Extend, Load, MemVar, Store, Compare, Neg, Inside}
+use Rattle.std.specs.Prelude.{◌≡◌, ◌⊎◌, ℕ, ◌+◌, ◌<◌, ◌^◌, List, [], ◌∷◌, ◌++◌, Option, Some, fold, length, slice_get, take, Contains}
+use Rattle.word_terms.specs.Tree.{WordTree, MemTree, CondTree, Const, Var, Bin, Extend, Load, MemVar, Store, Compare, Neg, Inside, depth_of_cond, depth_of_mem, depth_of_word}
+use Rattle.word_terms.specs.Scope.{CondInRange, CondInScope, MemInRange, MemInScope, WordInRange, WordInScope}
 use Rattle.rv_words.specs.declared.comparison.Cmp.TheVariants.{Eq}
 use Rattle.term_arena.specs.declared.node.Node.{Node}
 use Rattle.term_arena.specs.declared.node.Node.TheVariants as node
@@ -10,6 +11,18 @@ pub data Tree : Type 0 where
   OfWord : (t : WordTree) → Tree
   OfMem : (m : MemTree) → Tree
   OfCond : (c : CondTree) → Tree
+
+-- how deep it is
+abbrev pub tree_depth : Tree → ℕ
+tree_depth (OfWord t) = depth_of_word t
+tree_depth (OfMem m) = depth_of_mem m
+tree_depth (OfCond c) = depth_of_cond c
+
+-- each constant in it is a 64-bit word, and each variable has a number of 32 bits
+abbrev pub TreeInRange : Tree → Type 0
+TreeInRange (OfWord t) = WordInRange t × WordInScope t (2 ^ 32) (2 ^ 32)
+TreeInRange (OfMem m) = MemInRange m × MemInScope m (2 ^ 32) (2 ^ 32)
+TreeInRange (OfCond c) = CondInRange c × CondInScope c (2 ^ 32) (2 ^ 32)
 
 -- the word of a place, the memory, the condition, where there is one
 abbrev pub as_word : Option Tree → WordTree

@@ -16,6 +16,8 @@ pub mod Merging
 pub mod DepthLemmas
 pub mod LimitLemmas
 pub mod ExitParts
+pub mod AxiomSteps
+pub mod ExitSteps
 pub mod ComputedLemmas
 pub mod StatingLemmas
 pub mod LargerTables

@@ -1,19 +1,12 @@
 -- Terms, facts and registers within limits, item by item.
 use Rattle.std.proofs.Common.{◌≡◌, ℕ, ◌+◌, ◌<◌, Some, List, [], ◌∷◌, ◌++◌, Bool, false, length, get_or, map, take, refl, sym, ap, subst, arith, suc, zero}
-use Rattle.std.specs.Prelude.{◌↔◌, IsTrue, slice_get}
+use Rattle.std.specs.Prelude.{◌↔◌, IsTrue}
 use Rattle.std.specs.List.{AllByRecursion}
-use Rattle.std.proofs.lemmas.Option.{slice_get-get_or}
 use Rattle.tailrec_lang.proofs.Lists.{map-take_more}
-use lib.Dec.{leb}
-use Rattle.std.proofs.lemmas.Bool.{le-leb, leb-true}
 use Rattle.word_terms.specs.Tree.{WordTree}
 use Rattle.held_terms.specs.Held.{register_of}
 use Rattle.tailrec_lang.specs.Registers.{AreRegistersFrom}
-use Rattle.term_text.specs.Limits.{depth_limit}
 use Rattle.term_arena.specs.declared.node.Node.{Node}
-use Rattle.term_arena.specs.Arena.{Tree, tree_of}
-use Rattle.term_arena.proofs.TreeLemmas.{number_within}
-use Rattle.term_bench.specs.inner.Depths.{AreAllDepths, FitsTree}
 use Rattle.term_bench.specs.inner.Making.{number}
 
 pub false_true : {b : Bool} → b ≡ false → IsTrue b → ⊥
@@ -41,21 +34,6 @@ module _ {A T : Type 0} (P : T → Type 0) (f : A → T) where
 
   pub not_each : {b : Bool} (xs : List A) (i : ℕ) (d : A) → i < length xs → b ≡ false → (P (f (get_or xs i d)) → IsTrue b) → IsTrue false ↔ AllByRecursion P (map f xs)
   not_each xs i d low fails must = (λ e. absurd (false_true refl e), λ all. absurd (false_true fails (must (each-at xs i d low all))))
-
--- ---- depths
-
-module _ (ns : List Node) (depths : List ℕ) (are : AreAllDepths ns depths) (k : ℕ) (t : Tree) (at : tree_of ns k ≡ Some t) where
-  pub depth_there : k < length depths
-  depth_there = let all : length depths ≡ length ns = are.all in let low = number_within ns k t at in omega (arith, all, low)
-
-  here : slice_get depths k ≡ Some (get_or depths k 0)
-  here = slice_get-get_or depths k 0 depth_there
-
-  pub depth_tells : IsTrue (leb (get_or depths k 0) depth_limit) ↔ FitsTree depth_limit t
-  depth_tells = (
-    λ e. (are.are.each k _ t here at).fits depth_limit (leb-true (get_or depths k 0) depth_limit e) (omega arith),
-    λ f. le-leb (get_or depths k 0) depth_limit ((are.are.each k _ t here at).only depth_limit (omega arith) f),
-  )
 
 -- ---- registers
 

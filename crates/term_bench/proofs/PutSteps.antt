@@ -71,3 +71,14 @@ searches_within n = let e = square n in omega (arith, e)
 
 pub looks_within : (n : ℕ) → 10 * n + 1 ≤ 4 * ((n + 1) * (n + 1))
 looks_within n = let e = square n in let le = no-more n in omega (arith, e, le)
+
+-- four for each term and two more; and so few where there are one or two terms
+pub fours_within : (n : ℕ) → 4 * n + 2 ≤ 4 * ((n + 1) * (n + 1))
+fours_within n = let e = square n in omega (arith, e)
+
+pub few_within : (n : ℕ) → 1 ≤ n → 16 ≤ 4 * ((n + 1) * (n + 1))
+few_within n some = let e = square n in let le = no-more n in omega (arith, e, le, some)
+
+pub some_within : (n : ℕ) → 2 ≤ n → 36 ≤ 4 * ((n + 1) * (n + 1))
+some_within zero two = absurd (omega (arith, two))
+some_within (suc n) two = let e = square (suc n) in let outer = suc-mul n (suc n) in let le = no-more n in let inner = mul-suc n n in omega (arith, e, outer, inner, le, two)

@@ -1,18 +1,19 @@
 -- The terms of a table are within the limits, and so is a short line beside one.
-use Rattle.std.proofs.Common.{◌≡◌, ℕ, ◌+◌, ◌<◌, ◌≤◌, Option, Some, List, [], ◌∷◌, ◌++◌, map, max, length, refl, sym, ap, ◌∙◌, subst, append_assoc, arith, ◌⊎◌, inl, inr}
+use Rattle.std.proofs.Common.{◌≡◌, ℕ, ◌+◌, ◌≤◌, Option, Some, List, [], ◌∷◌, ◌++◌, map, max, refl, sym, ap, ◌∙◌, subst, append_assoc, inl, inr}
 use Rattle.std.specs.Prelude.{All, slice_get, unwrap_or}
 use Rattle.std.specs.List.{AllByRecursion}
-use Rattle.std.proofs.lemmas.List.{append-nil, length-append}
+use Rattle.std.proofs.lemmas.List.{append-nil, map-append}
 use Rattle.std.proofs.lemmas.List.Elements.{All-nil, All-cons}
 use Rattle.std.proofs.lemmas.List.Sums.{fold-append}
-use Rattle.std.proofs.lemmas.Option.{same_Some, slice_get-get_or}
 use Rattle.word_terms.specs.Tree.{WordTree}
 use Rattle.term_text.specs.Limits.{IsMem, IsWord, depth_limit}
 use Rattle.term_arena.specs.declared.node.Node.{Node}
 use Rattle.term_arena.specs.declared.node.Node.TheVariants as node
-use Rattle.term_arena.specs.Arena.{AreChildren, Extends, Tree, cond_of, mem_of, tree_of, tree_over, trees_of, word_of}
-use Rattle.term_arena.proofs.Places.{at-push_cases}
-use Rattle.term_arena.proofs.TreeLemmas.{tree_of-push}
+use Rattle.term_arena.specs.Arena.{AreChildren, Tree, TreeInRange, tree_depth, mem_of, tree_of, tree_over, trees_of, word_of}
+use Rattle.term_arena.specs.inner.Depths.{NodeInRange}
+use Rattle.term_arena.proofs.Places.{at-push_cases, map-at}
+use Rattle.term_arena.proofs.DepthLemmas.{ranges-push}
+use Rattle.term_arena.proofs.TreeLemmas.{trees-none, trees-push}
 use Rattle.group_text.specs.Limits.{IsValues}
 use Rattle.held_terms.specs.declared.held.HeldFact.{HeldFact}
 use Rattle.held_terms.specs.declared.held.HeldFact.TheVariants as held
@@ -26,112 +27,81 @@ use Rattle.short_text.specs.ShortLimits.{AreHeldRegisters, AreHeldValues, IsHeld
 use Rattle.short_text.specs.Table.{AreNextTerms, HasNumbers, IsNextTerm, IsTable, depth_in, depth_over, depths_of, with_depth}
 use Rattle.term_bench.specs.Fine.{AreFineFacts, AreFineMems, AreFineRegisters, IsFineSide}
 use Rattle.term_bench.specs.Short.{IsFineShort}
-use Rattle.term_bench.specs.inner.Depths.{AreAllDepths, FitsTree, HasDepth}
-use Rattle.term_bench.proofs.DepthLemmas.{IsAbove, bin_depth, compare_depth, const_depth, depths_stay, extend_depth, inside_depth, load_depth, mem_variable_depth, more_depths, neg_depth, store_depth, variable_depth}
-use Rattle.term_bench.proofs.LimitLemmas.{depth_there, same_numbers}
+use Rattle.term_bench.specs.inner.Depths.{FitsTree}
+use Rattle.term_bench.proofs.DepthLemmas.{tree_fits}
+use Rattle.term_bench.proofs.LimitLemmas.{same_numbers}
 
 -- ---- depths by a table's own reckoning
 
-above-both : (x y : ℕ) → IsAbove x y (max x y + 1)
-above-both x y = record {
-  some = omega arith;
-  first = λ d p q. omega (arith, p);
-  second = λ d p q. omega (arith, p);
-  least = λ d p q. omega (arith, p, q);
-}
+depth-at : (ds : List ℕ) (ts : List Tree) (k : ℕ) (t : Tree) → ds ≡ map tree_depth ts → slice_get ts k ≡ Some t → depth_in ds k ≡ tree_depth t
+depth-at ds ts k t e at = ap (λ (l : List ℕ). depth_in l k) e ∙ ap (λ (o : Option ℕ). unwrap_or o 0) (map-at tree_depth ts k t at)
 
-above-one : (x : ℕ) → IsAbove x 0 (x + 1)
-above-one x = record {
-  some = omega arith;
-  first = λ d p q. omega (arith, p);
-  second = λ d p q. omega arith;
-  least = λ d p q. omega (arith, p);
-}
-
-there : (ds : List ℕ) (k : ℕ) → k < length ds → slice_get ds k ≡ Some (depth_in ds k)
-there ds k low = let e = slice_get-get_or ds k 0 low in e ∙ ap Some (sym (ap (λ (o : Option ℕ). unwrap_or o 0) e))
-
-module _ (ns : List Node) (ds : List ℕ) (are : AreAllDepths ns ds) where
-  has : (k : ℕ) (t : Tree) → tree_of ns k ≡ Some t → HasDepth t (depth_in ds k)
-  has k t at = are.are.each k (depth_in ds k) t (there ds k (depth_there ns ds are k t at)) at
-
-  over : (n : Node) → AreChildren ns n → HasNumbers n → HasDepth (tree_over (trees_of ns) n) (depth_over ds n)
-  over (node.Const n) cs low = const_depth n low
-  over (node.WordVar i) cs low = variable_depth i low
-  over (node.Bin op a b) cs low = bin_depth _ _ _ (above-both (depth_in ds a) (depth_in ds b)) op (word_of ns a) (word_of ns b) (has a _ cs.0) (has b _ cs.1)
-  over (node.Extend ext a) cs low = extend_depth _ _ (above-one (depth_in ds a)) ext (word_of ns a) (has a _ cs)
-  over (node.Load width m a) cs low = load_depth _ _ _ (above-both (depth_in ds m) (depth_in ds a)) width (mem_of ns m) (word_of ns a) (has m _ cs.0) (has a _ cs.1)
-  over (node.MemVar i) cs low = mem_variable_depth i low
-  over (node.Store width m a v) cs low =
-      let x = depth_in ds m in
-      let y = depth_in ds a in
-      let z = depth_in ds v in
-      store_depth x y z (max y z) (max x (max y z) + 1) (above-both x (max y z)) (omega arith) (omega arith) (λ d p q. omega (arith, p, q)) width (mem_of ns m) (word_of ns a) (word_of ns v) (has m _ cs.0) (has a _ cs.1) (has v _ cs.2)
-  over (node.Compare cmp a b) cs low = compare_depth _ _ _ (above-both (depth_in ds a) (depth_in ds b)) cmp (word_of ns a) (word_of ns b) (has a _ cs.0) (has b _ cs.1)
-  over (node.Neg c) cs low = neg_depth _ _ (above-one (depth_in ds c)) (cond_of ns c) (has c _ cs)
-  over (node.Inside width m a) cs low = inside_depth _ _ _ (above-both (depth_in ds m) (depth_in ds a)) width (mem_of ns m) (word_of ns a) (has m _ cs.0) (has a _ cs.1)
-
--- each depth is known, and within the limit
-record IsLow (ns : List Node) (ds : List ℕ) : Type 0 where
-  depths : AreAllDepths ns ds
-  low : (k d : ℕ) → slice_get ds k ≡ Some d → d ≤ depth_limit
+depths-none : depths_of [] ≡ []
+unfolding depths_of
+depths-none = refl
 
 depths-push : (ns : List Node) (n : Node) → depths_of (ns ++ n ∷ []) ≡ with_depth (depths_of ns) n
 unfolding depths_of
 depths-push ns n = fold-append with_depth [] ns (n ∷ [])
 
-no-depths : IsLow [] (depths_of [])
-unfolding depths_of
+node-range : (n : Node) → HasNumbers n → NodeInRange n
+node-range (node.Const n) h = h
+node-range (node.WordVar i) h = h
+node-range (node.Bin op a b) h = tt
+node-range (node.Extend ext a) h = tt
+node-range (node.Load width m a) h = tt
+node-range (node.MemVar i) h = h
+node-range (node.Store width m a v) h = tt
+node-range (node.Compare cmp a b) h = tt
+node-range (node.Neg c) h = tt
+node-range (node.Inside width m a) h = tt
+
+-- it is the depth of each tree, and within the limit
+record IsLow (ns : List Node) : Type 0 where
+  depths : depths_of ns ≡ map tree_depth (trees_of ns)
+  ranges : (k : ℕ) (t : Tree) → tree_of ns k ≡ Some t → TreeInRange t
+  low : (k : ℕ) (t : Tree) → tree_of ns k ≡ Some t → tree_depth t ≤ depth_limit
+
+no-depths : IsLow []
 no-depths = record {
-  depths = record { are = record { few = omega arith; each = λ k d t at tree. absurd (cc) }; all = refl };
-  low = λ k d at. absurd (cc);
+  depths = depths-none ∙ sym (ap (map tree_depth) trees-none);
+  ranges = λ k t e. let bad = ap (λ (ts : List Tree). slice_get ts k) (sym trees-none) ∙ e in absurd (cc);
+  low = λ k t e. let bad = ap (λ (ts : List Tree). slice_get ts k) (sym trees-none) ∙ e in absurd (cc);
 }
 
-low-next : (ns : List Node) (n : Node) → IsLow ns (depths_of ns) → IsNextTerm ns n → IsLow (ns ++ n ∷ []) (depths_of (ns ++ n ∷ []))
-low-next ns n h next = subst (IsLow (ns ++ n ∷ [])) (sym (depths-push ns n)) (record {
-  depths = record { are = more_depths (ns ++ n ∷ []) ds (depths_stay ns (ns ++ n ∷ []) ds grows h.depths.are) d room here; all = all };
-  low = λ k m at. by k m (at-push_cases ds d k m at);
-})
-  where
-    ds : List ℕ
-    ds = depths_of ns
+module _ (ns : List Node) (h : IsLow ns) where
+  at : (k : ℕ) (t : Tree) → tree_of ns k ≡ Some t → depth_in (depths_of ns) k ≡ tree_depth t
+  at k t e = depth-at (depths_of ns) (trees_of ns) k t h.depths e
 
-    d : ℕ
-    d = depth_over ds n
+  over : (n : Node) → AreChildren ns n → depth_over (depths_of ns) n ≡ tree_depth (tree_over (trees_of ns) n)
+  over (node.Const n) cs = refl
+  over (node.WordVar i) cs = refl
+  over (node.Bin op a b) cs = λ i. max (at a _ cs.0 i) (at b _ cs.1 i) + 1
+  over (node.Extend ext a) cs = λ i. at a _ cs i + 1
+  over (node.Load width m a) cs = λ i. max (at m _ cs.0 i) (at a _ cs.1 i) + 1
+  over (node.MemVar i) cs = refl
+  over (node.Store width m a v) cs = λ i. max (at m _ cs.0 i) (max (at a _ cs.1 i) (at v _ cs.2 i)) + 1
+  over (node.Compare cmp a b) cs = λ i. max (at a _ cs.0 i) (at b _ cs.1 i) + 1
+  over (node.Neg c) cs = λ i. at c _ cs i + 1
+  over (node.Inside width m a) cs = λ i. max (at m _ cs.0 i) (at a _ cs.1 i) + 1
 
-    grows : Extends ns (ns ++ n ∷ [])
-    grows = record { more = n ∷ []; is = refl }
+  low-next : (n : Node) → IsNextTerm ns n → IsLow (ns ++ n ∷ [])
+  low-next n next = record {
+    depths = depths-push ns n ∙ (λ i. h.depths i ++ over n next.children i ∷ []) ∙ sym (map-append tree_depth (trees_of ns) (tree_over (trees_of ns) n ∷ [])) ∙ ap (map tree_depth) (sym (trees-push ns n));
+    ranges = ranges-push ns h.ranges n next.children (node-range n next.numbers);
+    low = λ k t e. elim (at-push_cases (trees_of ns) (tree_over (trees_of ns) n) k t (ap (λ (ts : List Tree). slice_get ts k) (sym (trees-push ns n)) ∙ e)) [
+      | inl old ↦ h.low k t old.1
+      | inr last ↦ subst (λ (u : Tree). tree_depth u ≤ depth_limit) last.1 (subst (λ (d : ℕ). d ≤ depth_limit) (over n next.children) next.depth)
+    ];
+  }
 
-    long : length (ns ++ n ∷ []) ≡ length ns + 1
-    long = length-append ns (n ∷ [])
-
-    room : length ds < length (ns ++ n ∷ [])
-    room = let same : length ds ≡ length ns = h.depths.all in omega (arith, same, long)
-
-    here : (t : Tree) → tree_of (ns ++ n ∷ []) (length ds) ≡ Some t → HasDepth t d
-    here t at =
-        let last : tree_of (ns ++ n ∷ []) (length ds) ≡ Some (tree_over (trees_of ns) n) = ap (tree_of (ns ++ n ∷ [])) h.depths.all ∙ tree_of-push ns n in
-        subst (λ (u : Tree). HasDepth u d) (same_Some _ t (sym last ∙ at)) (over ns ds h.depths n next.children next.numbers)
-
-    all : length (ds ++ d ∷ []) ≡ length (ns ++ n ∷ [])
-    all = length-append ds (d ∷ []) ∙ ap (λ (k : ℕ). k + 1) h.depths.all ∙ sym long
-
-    by : (k m : ℕ) → ((k < length ds) × (slice_get ds k ≡ Some m)) ⊎ ((k ≡ length ds) × (d ≡ m)) → m ≤ depth_limit
-    by k m (inl p) = h.low k m p.1
-    by k m (inr e) = subst (λ (x : ℕ). x ≤ depth_limit) e.1 next.depth
-
-low-all : (before more : List Node) → IsLow before (depths_of before) → AreNextTerms before more → IsLow (before ++ more) (depths_of (before ++ more))
-low-all before [] h next = subst (λ (ns : List Node). IsLow ns (depths_of ns)) (sym (append-nil before)) h
-low-all before (n ∷ ns) h next =
-    subst (λ (ms : List Node). IsLow ms (depths_of ms)) (append_assoc before (n ∷ []) ns) (low-all (before ++ n ∷ []) ns (low-next before n h next.0) next.1)
+low-all : (before more : List Node) → IsLow before → AreNextTerms before more → IsLow (before ++ more)
+low-all before [] h next = subst IsLow (sym (append-nil before)) h
+low-all before (n ∷ ns) h next = subst IsLow (append_assoc before (n ∷ []) ns) (low-all (before ++ n ∷ []) ns (low-next before h n next.0) next.1)
 
 -- each term of a table is within the limits
 table-fits : (ns : List Node) → IsTable ns → (k : ℕ) (t : Tree) → tree_of ns k ≡ Some t → FitsTree depth_limit t
-table-fits ns table k t at =
-    let h = low-all [] ns no-depths table in
-    let ds = depths_of ns in
-    let here = there ds k (depth_there ns ds h.depths k t at) in
-    (has ns ds h.depths k t at).fits depth_limit (h.low k _ here) (omega arith)
+table-fits ns table k t e = let h = low-all [] ns no-depths table in tree_fits depth_limit t (h.ranges k t e) (h.low k t e)
 
 -- ---- items
 

@@ -5,9 +5,13 @@ use Rattle.term_arena.specs.Arena.{Tree, OfWord, OfMem, OfCond, ArePutIn, cond_n
 use Rattle.tailrec_lang.specs.Tree.{DefTree, GroupTree, ValuesTree}
 use Rattle.loop_rule.specs.Tree.{LeafTree}
 use Rattle.loop_rule.specs.Leaves.{at_entry, leaves_of, parameters}
+use Rattle.loop_rule.specs.Rule.{IsExit}
 use Rattle.sep_assert.specs.Tree.{AssertionTree}
 use Rattle.triple_kernel.specs.Tree.{FactTree, TripleTree, WordIs, MemIs, So, Gives}
-use Rattle.held_terms.specs.Subterms.{HasTree}
+use Rattle.instr_axioms.specs.Axiom.{axiom_of}
+use Rattle.held_terms.specs.Subterms.{HasFacts, HasSide, HasTree}
+use Rattle.short_text.specs.declared.short.Short.{Short}
+use Rattle.short_text.specs.declared.short.Short.TheVariants as short
 use Rattle.proof_text.specs.Line.{Axiom, Compose, Discharge, ExtendCode, Forget, Frame, Further, Inst, LineTree, Loop, RuleTree, States, Strengthen, UseExit, Weaken}
 
 -- a term's subterms: children first, from left to right, and the term itself last
@@ -155,3 +159,25 @@ HasLine theorem (Further p stated) ts = Unit {0}
 -- 4 (T + 1)^2, where T is how many terms a list has
 abbrev pub pair_steps : List Tree → ℕ
 pair_steps ts = 4 * ((length ts + 1) * (length ts + 1))
+
+-- ---- short lines
+
+-- whether judging the line only compares and copies numbers of terms, or forgets a theorem
+abbrev pub is_copied : Short → Bool
+is_copied (short.Frame p regs mems) = true
+is_copied (short.ExtendCode p code) = true
+is_copied (short.Compose p q) = true
+is_copied (short.Forget k) = true
+is_copied s = false
+
+-- the list has each subterm of the theorem from which the line's rule goes on, of what the line states in place of what that has
+-- there, and of the triple that is computed of no theorem. None has what is looked at where a line closes a definition.
+abbrev pub HasShort : GroupTree → (ℕ → Option TripleTree) → List Node → Short → List Tree → Type 0
+HasShort g theorem ns (short.Axiom a word form) ts = HasSubterms ts (theorem_terms (axiom_of a word form))
+HasShort g theorem ns (short.Inst p words mems) ts = HasSubterms ts (theorem_terms (theorem p))
+HasShort g theorem ns (short.Strengthen p facts pre) ts = HasSubterms ts (theorem_terms (theorem p)) × HasSide ns pre ts
+HasShort g theorem ns (short.Weaken p facts post) ts = HasSubterms ts (theorem_terms (theorem p)) × HasSide ns post ts
+HasShort g theorem ns (short.Discharge p facts) ts = HasSubterms ts (theorem_terms (theorem p)) × HasFacts ns facts ts
+HasShort g theorem ns (short.UseExit def exit) ts = (t : TripleTree) → IsExit g def exit t → HasSubterms ts (triple_terms t)
+HasShort g theorem ns (short.Loop def cited) ts = ⊥
+HasShort g theorem ns s ts = Unit {0}

@@ -1,6 +1,6 @@
 //! The judge of the lines of a group's proof, over numbers.
 
-ghost use Rattle.std.specs.Prelude.{◌≡◌, ◌+◌, ◌<◌, ◌≤◌, ◌↔◌, ◌++◌, IfOk, IfSome, IsErrOf, IsSomeAnd, IsTrue, List as Items, OnErr, OnOk, [], false, is_some, Some as Just, length, map, option_map, replicate, slice_get, true};
+ghost use Rattle.std.specs.Prelude.{◌≡◌, ◌+◌, ◌<◌, ◌≤◌, ◌↔◌, ◌++◌, ℕ, IfOk, IfSome, IsErrOf, IsSomeAnd, IsTrue, List as Items, OnErr, OnOk, [], false, is_some, Some as Just, length, map, option_map, replicate, slice_get, true};
 ghost use Rattle.std.specs.Option.{option_copied};
 ghost use Rattle.tailrec_lang.specs.Tree.{group_tree};
 ghost use Rattle.tailrec_lang.specs.WellFormed.{IsWellFormed};
@@ -16,8 +16,9 @@ ghost use Rattle.checker.specs.Sound.{Sound};
 ghost use Rattle.term_bench.specs.Bench.{CanCite, Theorems, state_group, state_history, state_nodes};
 ghost use Rattle.proof_text.specs.inner.OwnCode.{IsOwnCode};
 ghost use Rattle.short_text.specs.SpelledShort.{short_or_own};
+ghost use Rattle.short_text.specs.declared.short.Short.TheVariants as short;
 ghost use Rattle.term_bench.specs.Short.{AreWithin, IsFineShort, IsNeverStated, IsShortInstance, IsStatedBy, LeavesBehind};
-ghost use Rattle.term_bench.specs.Terms.{HasLine, HasSubterms, closing_terms, compares_numbers, is_compared, is_loop, loop_terms, nodes_of, pair_steps, premise_terms, put_in_terms, stated_triple_terms, triple_terms, whole_line_terms};
+ghost use Rattle.term_bench.specs.Terms.{HasLine, HasShort, HasSubterms, closing_terms, compares_numbers, is_compared, is_copied, is_loop, loop_terms, nodes_of, pair_steps, premise_terms, put_in_terms, stated_triple_terms, triple_terms, whole_line_terms};
 ghost use Rattle.term_bench.specs.inner.Making.{MadeIf};
 ghost use Rattle.term_bench.specs.inner.Marks.{Changes, HaveCode, held_over};
 ghost use Rattle.term_bench.specs.inner.Put.{IsHeldPut};
@@ -49,16 +50,15 @@ use triple_kernel::{RuleFault, Triple};
 /// facts of a theorem.
 const FACTS_LIMIT: u64 = 1 << 25;
 
-/// Judges the lines of a group's proof, one after the other. It keeps their terms once each, how
-/// deep they are, as far as that was asked, room for the images that an instance makes, the
-/// theorems that can still be cited as numbers of terms, which definitions are closed, the group's
-/// code, for theorems to share, and which of them are known to have it. A theorem that is forgotten
-/// leaves no place behind it, while the arena keeps its terms.
+/// Judges the lines of a group's proof, one after the other. It keeps their terms once each, room
+/// for the images that an instance makes, the theorems that can still be cited as numbers of terms,
+/// which definitions are closed, the group's code, for theorems to share, and which of them are
+/// known to have it. A theorem that is forgotten leaves no place behind it, while the arena keeps
+/// its terms.
 #[derive(Drop)]
 pub struct Bench<'g> {
     group: &'g Group,
     arena: Arena,
-    depths: List<u8>,
     images: ImageTable,
     held: BTreeMap<u64, Held>,
     next: u64,
@@ -80,7 +80,6 @@ impl<'g> Model for Bench<'g> {
     ghost use Rattle.tailrec_lang.specs.contracts.group.End as end;
     ghost use Rattle.term_bench.specs.Bench.{BenchState};
     ghost use Rattle.term_bench.specs.inner.Bench.{IsSoundState};
-    ghost use Rattle.term_bench.specs.inner.Depths.{AreDepths};
     ghost use Rattle.term_bench.specs.inner.Marks.{IsOwnKept};
 
     ghost Value = { BenchState };
@@ -89,7 +88,7 @@ impl<'g> Model for Bench<'g> {
 
     ghost view = { λ b. (b.group.now, b.arena, b.held.entries, b.next, b.closed) };
 
-    ghost invariant = { λ b. IsSoundState (b.group.now, b.arena, b.held.entries, b.next, b.closed) × AreDepths b.arena b.depths × IsOwnKept b.group.now b.code b.held.entries b.marked };
+    ghost invariant = { λ b. IsSoundState (b.group.now, b.arena, b.held.entries, b.next, b.closed) × IsOwnKept b.group.now b.code b.held.entries b.marked };
 }
 
 impl<'g> Bench<'g> {
@@ -105,7 +104,6 @@ impl<'g> Bench<'g> {
         Ok(Bench {
             group,
             arena: Arena::new(alloc),
-            depths: List::new(alloc),
             images: ImageTable::new(alloc),
             held: BTreeMap::new(alloc),
             next: 0,
@@ -266,7 +264,10 @@ impl<'g> Bench<'g> {
     /// Judges the next line, which is short and over the numbers of the bench's terms: whether
     /// there is a triple within the limits of texts that makes it right, which then is the next
     /// theorem. After a refusal the theorems and the closed definitions are as before; the arena
-    /// may have more terms.
+    /// may have more terms. A line by `frame`, `compose` or `extend` takes no step, nor does one
+    /// that forgets. One that closes a definition takes as many as `judge_by` says. One by any
+    /// other rule takes at most 4 (T + 1)^2, where T is how many different terms are looked at
+    /// (`HasShort`), whatever else the arena has.
     pub fn derive<L: Ledger>(
         &mut self,
         alloc: Global,
@@ -285,6 +286,16 @@ impl<'g> Bench<'g> {
             → ⊥ }
         ensures same { OnErr result (state_history self.new ≡ state_history self.old) }
         ensures grows { Extends (state_nodes self.old) (state_nodes self.new) }
+        ensures steps { is_copied line.now ≡ true → steps.new ≡ steps.old }
+        ensures most { (ts : Items Tree)
+            → HasShort (state_group self.old) (state_history self.old).theorem
+            (state_nodes self.old) line.now ts
+            → steps.new ≤ steps.old + pair_steps ts }
+        ensures closing { (def : ℕ) (cited : Items ℕ)
+            → line.now ≡ short.Loop def cited
+            → steps.new
+            ≤ steps.old + nodes_of (closing_terms (state_group self.old)
+            (slice_get (state_group self.old).defs def)) }
     {
         self.derive_spelled(alloc, line, false, steps)
     }
@@ -312,6 +323,16 @@ impl<'g> Bench<'g> {
             → ⊥ }
         ensures same { OnErr result (state_history self.new ≡ state_history self.old) }
         ensures grows { Extends (state_nodes self.old) (state_nodes self.new) }
+        ensures steps { is_copied line.now ≡ true → steps.new ≡ steps.old }
+        ensures most { (ts : Items Tree)
+            → HasShort (state_group self.old) (state_history self.old).theorem
+            (state_nodes self.old) line.now ts
+            → steps.new ≤ steps.old + pair_steps ts }
+        ensures closing { (def : ℕ) (cited : Items ℕ)
+            → line.now ≡ short.Loop def cited
+            → steps.new
+            ≤ steps.old + nodes_of (closing_terms (state_group self.old)
+            (slice_get (state_group self.old).defs def)) }
     {
         match line {
             Short::Loop(def, cited) => self.close(alloc, *def, cited.as_slice(), steps),
@@ -469,6 +490,11 @@ impl<'g> Bench<'g> {
             (short_or_own (state_group self.old).code all line.now) }
         ensures same { OnErr result (state_history self.new ≡ state_history self.old) }
         ensures grows { Extends (state_nodes self.old) (state_nodes self.new) }
+        ensures steps { is_copied line.now ≡ true → steps.new ≡ steps.old }
+        ensures most { (ts : Items Tree)
+            → HasShort (state_group self.old) (state_history self.old).theorem
+            (state_nodes self.old) line.now ts
+            → steps.new ≤ steps.old + pair_steps ts }
     {
         law_of_lines(&NoRule);
         self.law_of_bench();
@@ -511,13 +537,17 @@ impl<'g> Bench<'g> {
         ensures group { self.new.0 ≡ self.old.0 }
         ensures same { state_history self.new ≡ state_history self.old }
         ensures grows { Extends (state_nodes self.old) (state_nodes self.new) }
+        ensures steps { is_copied line.now ≡ true → steps.new ≡ steps.old }
+        ensures most { (ts : Items Tree)
+            → HasShort (state_group self.old) (state_history self.old).theorem
+            (state_nodes self.old) line.now ts
+            → steps.new ≤ steps.old + pair_steps ts }
     {
         stated_by(
             alloc,
             self.group,
             &self.code,
             &mut self.arena,
-            &mut self.depths,
             &mut self.images,
             &self.held,
             &self.marked,

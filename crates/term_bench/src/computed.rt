@@ -1,57 +1,44 @@
 //! Triples that a line computes, which may be deeper than what is written.
 
-ghost use Rattle.std.specs.Prelude.{◌≡◌, IfOk, Some as Just};
+ghost use Rattle.std.specs.Prelude.{◌≡◌, ◌≤◌, ◌+◌, ◌*◌, IfOk, List as Items, Some as Just, length};
 ghost use Rattle.tailrec_lang.specs.Tree.{group_tree};
+ghost use Rattle.triple_kernel.specs.Tree.{TripleTree};
 ghost use Rattle.triple_kernel.specs.Rules.{IsInst};
 ghost use Rattle.instr_axioms.specs.Axiom.{axiom_of};
 ghost use Rattle.loop_rule.specs.Rule.{IsExit};
 ghost use Rattle.proof_text.specs.inner.OwnCode.{IsOwnCode};
-ghost use Rattle.term_arena.specs.Arena.{Extends};
+ghost use Rattle.term_arena.specs.Arena.{Extends, Tree};
 ghost use Rattle.held_terms.specs.Held.{IsHeldAt, triple_of};
 ghost use Rattle.held_terms.specs.Image.{IsSubAt, put_for_numbers};
 ghost use Rattle.term_bench.specs.Fine.{IsFineHeld};
-ghost use Rattle.term_bench.specs.inner.Depths.{AreDepths};
+ghost use Rattle.term_bench.specs.Terms.{HasSubterms, pair_steps, theorem_terms, triple_terms};
 ghost use Rattle.term_bench.specs.inner.Making.{MadeIf};
 
-use crate::depths::deepen;
 use crate::exits::exit_held;
 use crate::limits::is_within;
 use crate::put::put_triple;
 use held_terms::{Held, ImageTable, SharedCode, instance};
 use instr_axioms::axiom_triple;
-use rv_words::{List, NoMemory};
+use rv_words::NoMemory;
 use std::alloc::Global;
 use std::sync::ledger::Ledger;
 use tailrec_lang::Group;
 use term_arena::{Arena, Steps};
 use triple_kernel::Form;
 
-/// The triple, if it is within the limits. The depths are looked up, or computed where there are
-/// none yet.
-fn if_within<L: Ledger>(
-    arena: &Arena,
-    depths: &mut List<u8>,
-    h: Held,
-    steps: &mut Steps<L>,
-) -> Result<Option<Held>, NoMemory>
+/// The triple, if it is within the limits.
+fn if_within(arena: &Arena, h: Held) -> Option<Held>
     requires there { IsHeldAt arena.now h }
     requires code { IsOwnCode h.code.ranges }
-    requires depths { AreDepths arena.now depths.old }
-    ensures made { IfOk result (λ o. MadeIf arena.now (λ t. t ≡ triple_of arena.now h) o) }
-    ensures depths { AreDepths arena.now depths.new }
+    ensures { MadeIf arena.now (λ t. t ≡ triple_of arena.now h) result }
 {
-    deepen(arena, depths, steps)?;
-    if !is_within(arena, depths.as_slice(), &h) {
-        return Ok(None);
-    }
-    Ok(Some(h))
+    if is_within(arena, &h) { Some(h) } else { None }
 }
 
 /// Terms for the variables of a theorem, all put in at once.
 pub(crate) fn put_in<L: Ledger>(
     alloc: Global,
     arena: &mut Arena,
-    depths: &mut List<u8>,
     images: &mut ImageTable,
     p: &Held,
     words: &[(u32, u64)],
@@ -60,47 +47,45 @@ pub(crate) fn put_in<L: Ledger>(
 ) -> Result<Option<Held>, NoMemory>
     requires p { IsFineHeld arena.old p.now }
     requires sub { IsSubAt arena.old words.now mems.now }
-    requires depths { AreDepths arena.old depths.old }
     ensures made { IfOk result (λ o. MadeIf arena.new
         (λ t. IsInst (put_for_numbers arena.old words.now mems.now) (triple_of arena.old p.now) t)
         o) }
     ensures grows { Extends arena.old arena.new }
-    ensures depths { AreDepths arena.new depths.new }
+    ensures steps { (ts : Items Tree)
+        → HasSubterms ts (triple_terms (triple_of arena.old p.now))
+        → steps.new ≤ steps.old + 2 * length ts }
 {
     let h = instance(alloc, arena, images, p, words, mems, steps)?;
-    let made = if_within(arena, depths, h, steps)?;
-    Ok(made)
+    Ok(if_within(arena, h))
 }
 
 /// The axiom of the instruction word at an address, in a form.
 pub(crate) fn axiom<L: Ledger>(
     alloc: Global,
     arena: &mut Arena,
-    depths: &mut List<u8>,
     addr: u64,
     word: u32,
     form: Form,
     steps: &mut Steps<L>,
 ) -> Result<Option<Held>, NoMemory>
-    requires depths { AreDepths arena.old depths.old }
     ensures made { IfOk result (λ o. MadeIf arena.new (λ t. axiom_of addr word form ≡ Just t) o) }
     ensures grows { Extends arena.old arena.new }
-    ensures depths { AreDepths arena.new depths.new }
+    ensures steps { (ts : Items Tree)
+        → HasSubterms ts (theorem_terms (axiom_of addr word form))
+        → steps.new ≤ steps.old + pair_steps ts }
 {
     let found = axiom_triple(alloc, addr, word, form)?;
     let Some(t) = found else {
         return Ok(None);
     };
     let h = put_triple(alloc, arena, &t, steps)?;
-    let made = if_within(arena, depths, h, steps)?;
-    Ok(made)
+    Ok(if_within(arena, h))
 }
 
 /// The triple of an exit of a definition, which shares that code.
 pub(crate) fn exit<L: Ledger>(
     alloc: Global,
     arena: &mut Arena,
-    depths: &mut List<u8>,
     g: &Group,
     code: &SharedCode,
     def: u32,
@@ -109,16 +94,18 @@ pub(crate) fn exit<L: Ledger>(
 ) -> Result<Option<Held>, NoMemory>
     requires code { IsOwnCode g.now.code.ranges }
     requires shared { code.now.ranges ≡ g.now.code.ranges }
-    requires depths { AreDepths arena.old depths.old }
     ensures made { IfOk result (λ o.
         MadeIf arena.new (λ t. IsExit (group_tree g.now) def number t) o) }
     ensures grows { Extends arena.old arena.new }
-    ensures depths { AreDepths arena.new depths.new }
+    ensures steps { (ts : Items Tree)
+        → ((t : TripleTree)
+        → IsExit (group_tree g.now) def number t
+        → HasSubterms ts (triple_terms t))
+        → steps.new ≤ steps.old + (4 * length ts + 2) }
 {
     let found = exit_held(alloc, arena, g, code, def, number, steps)?;
     let Some(h) = found else {
         return Ok(None);
     };
-    let made = if_within(arena, depths, h, steps)?;
-    Ok(made)
+    Ok(if_within(arena, h))
 }

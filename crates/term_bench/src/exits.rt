@@ -1,15 +1,17 @@
 //! The triple of an exit of a definition, over the numbers of its terms.
 #![tactic(auto, using(held_terms::proofs::InstanceLemmas::extends_next))]
 
-ghost use Rattle.std.specs.Prelude.{◌≡◌, ◌+◌, ◌∷◌, [], IfOk, Some as Just, drop, map, slice_index_or, zip};
+ghost use Rattle.std.specs.Prelude.{◌≡◌, ◌≤◌, ◌+◌, ◌*◌, ◌∷◌, [], IfOk, List as Items, Some as Just, drop, length, map, slice_index_or, zip};
 ghost use Rattle.std.specs.List.{range_with_len};
 ghost use Rattle.word_terms.specs.Tree.{Const, MemVar, Var};
 ghost use Rattle.tailrec_lang.specs.Tree.{def_tree, group_tree};
+ghost use Rattle.triple_kernel.specs.Tree.{TripleTree};
 ghost use Rattle.held_terms.specs.declared.held.HeldFact.TheVariants as held;
 ghost use Rattle.held_terms.specs.Held.{AreValuesAt, AreWordsAt, values_over};
-ghost use Rattle.term_arena.specs.Arena.{Extends, word_of};
+ghost use Rattle.term_arena.specs.Arena.{Extends, Tree, word_of};
 ghost use Rattle.loop_rule.specs.Leaves.{at_entry, at_exit, variables_after};
-ghost use Rattle.loop_rule.specs.Rule.{exit_triple};
+ghost use Rattle.loop_rule.specs.Rule.{IsExit, exit_triple};
+ghost use Rattle.term_bench.specs.Terms.{HasSubterms, triple_terms};
 ghost use Rattle.term_bench.specs.inner.Put.{AreMemsPut, AreWordsPut, IsHeldPut, IsMemPut, IsSidePut, IsValuesPut, IsWordPut};
 ghost use Rattle.term_bench.specs.inner.Exits.{IsHeldWith, IsExitPut};
 
@@ -22,7 +24,7 @@ use tailrec_lang::{Def, Exit, Group, def_at, results_at};
 use term_arena::{Arena, Node, Steps};
 
 /// The triple of that exit of that definition, if there is one. It shares that code, which is the
-/// group's own.
+/// group's own. A step is taken for each of its variables, and two for program counters.
 pub(crate) fn exit_held<L: Ledger>(
     alloc: Global,
     arena: &mut Arena,
@@ -35,6 +37,11 @@ pub(crate) fn exit_held<L: Ledger>(
     requires { code.now.ranges ≡ g.now.code.ranges }
     ensures put { IfOk result (λ o. IsExitPut arena.new (group_tree g.now) d exit o) }
     ensures grows { Extends arena.old arena.new }
+    ensures steps { (ts : Items Tree)
+        → ((t : TripleTree)
+        → IsExit (group_tree g.now) d exit t
+        → HasSubterms ts (triple_terms t))
+        → steps.new ≤ steps.old + (4 * length ts + 2) }
 {
     let Some(def) = def_at(g, d as usize) else {
         return Ok(None);
@@ -58,10 +65,17 @@ fn triple_at<L: Ledger>(
     x: Exit,
     steps: &mut Steps<L>,
 ) -> Result<Held, NoMemory>
-    requires { code.now.ranges ≡ g.now.code.ranges }
+    requires code { code.now.ranges ≡ g.now.code.ranges }
+    requires exit { IsExit (group_tree g.now) d exit (exit_triple (group_tree g.now) d
+        (def_tree def.now) exit x) }
     ensures put { IfOk result (λ h.
         IsHeldPut arena.new h (exit_triple (group_tree g.now) d (def_tree def.now) exit x)) }
     ensures grows { Extends arena.old arena.new }
+    ensures steps { (ts : Items Tree)
+        → ((t : TripleTree)
+        → IsExit (group_tree g.now) d exit t
+        → HasSubterms ts (triple_terms t))
+        → steps.new ≤ steps.old + (4 * length ts + 2) }
 {
     let words = g.regs.len();
     let mems = g.mems as usize;
@@ -113,6 +127,7 @@ fn entry_side<L: Ledger>(
         IsSidePut arena.new s (at_entry (group_tree g.now) (def_tree def.now)
         (values_over arena.old values.now))) }
     ensures grows { Extends arena.old arena.new }
+    ensures steps { steps.new ≤ steps.old + 1 }
 {
     let pc = constant(arena, def.entry, steps)?;
     side_with(
@@ -138,6 +153,7 @@ fn exit_side<L: Ledger>(
         IsSidePut arena.new s (at_exit (group_tree g.now) (Just x) (values_over arena.old
         values.now))) }
     ensures grows { Extends arena.old arena.new }
+    ensures steps { steps.new ≤ steps.old + 1 }
 {
     let words = values.words.as_slice();
     let mems = values.mems.as_slice();
@@ -163,6 +179,7 @@ fn first_word<L: Ledger>(
     ensures put { IfOk result (λ k.
         IsWordPut arena.new k (slice_index_or (map (word_of arena.old) words.now) 0 (Const 0))) }
     ensures grows { Extends arena.old arena.new }
+    ensures steps { steps.new ≤ steps.old + 1 }
 {
     if words.is_empty() {
         let k = constant(arena, 0, steps)?;
@@ -221,6 +238,7 @@ fn variables<L: Ledger>(
     ensures put { IfOk result (λ v.
         IsValuesPut arena.new v (variables_after words mems more_words more_mems)) }
     ensures grows { Extends arena.old arena.new }
+    ensures steps { steps.new ≤ steps.old + (more_words + more_mems) }
 {
     let words = word_variables(alloc, arena, words, more_words, steps)?;
     let mems = mem_variables(alloc, arena, mems, more_mems, steps)?;
@@ -237,6 +255,7 @@ fn word_variables<L: Ledger>(
     ensures put { IfOk result (λ ks.
         AreWordsPut arena.new ks (map Var (range_with_len first count))) }
     ensures grows { Extends arena.old arena.new }
+    ensures steps { steps.new ≤ steps.old + count }
 {
     let mut list = List::new(alloc);
     for i in 0..count {
@@ -256,6 +275,7 @@ fn mem_variables<L: Ledger>(
     ensures put { IfOk result (λ ks.
         AreMemsPut arena.new ks (map MemVar (range_with_len first count))) }
     ensures grows { Extends arena.old arena.new }
+    ensures steps { steps.new ≤ steps.old + count }
 {
     let mut list = List::new(alloc);
     for i in 0..count {
@@ -273,6 +293,7 @@ fn word_variable<L: Ledger>(
 ) -> Result<u64, NoMemory>
     ensures put { IfOk result (λ k. IsWordPut arena.new k (Var (first + i))) }
     ensures grows { Extends arena.old arena.new }
+    ensures steps { steps.new ≤ steps.old + 1 }
 {
     let number = numbered(first, i)?;
     let k = arena.add(Node::WordVar(number), steps)?;
@@ -287,6 +308,7 @@ fn mem_variable<L: Ledger>(
 ) -> Result<u64, NoMemory>
     ensures put { IfOk result (λ k. IsMemPut arena.new k (MemVar (first + i))) }
     ensures grows { Extends arena.old arena.new }
+    ensures steps { steps.new ≤ steps.old + 1 }
 {
     let number = numbered(first, i)?;
     let k = arena.add(Node::MemVar(number), steps)?;
@@ -296,6 +318,7 @@ fn mem_variable<L: Ledger>(
 fn constant<L: Ledger>(arena: &mut Arena, n: u64, steps: &mut Steps<L>) -> Result<u64, NoMemory>
     ensures put { IfOk result (λ k. IsWordPut arena.new k (Const n)) }
     ensures grows { Extends arena.old arena.new }
+    ensures steps { steps.new ≤ steps.old + 1 }
 {
     let k = arena.add(Node::Const(n), steps)?;
     Ok(k)

@@ -20,7 +20,7 @@
 //! the limits of texts makes the line right (`IsShortInstance`), and then holds that triple; so
 //! does `bench.derive_spelled` for one as it is spelled, where the group's own code is left out. A
 //! rule makes the triple of the theorems that the line cites (`making`), or it is computed and its
-//! depth is looked up (`computed`, `depths`). `law_of_full_lines` says that short lines stand for
+//! depth is looked up (`computed`, `limits`). `law_of_full_lines` says that short lines stand for
 //! as many lines of version 1, each right after those before it, and `law_of_one_full_line` that a
 //! short line stands for one alone.
 //!
@@ -43,7 +43,6 @@ mod check;
 mod closing;
 mod computed;
 mod copies;
-mod depths;
 mod exits;
 mod held_rule;
 mod known;

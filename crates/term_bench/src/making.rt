@@ -1,6 +1,6 @@
 //! Triples that a rule makes of theorems and of what a line states.
 
-ghost use Rattle.std.specs.Prelude.{◌≡◌, ◌↔◌, ◌⊎◌, ◌<◌, ◌++◌, All, IfOk, IsFalse, IsTrue, OnOk, false, length, map};
+ghost use Rattle.std.specs.Prelude.{◌≡◌, ◌↔◌, ◌⊎◌, ◌<◌, ◌≤◌, ◌+◌, ◌*◌, ◌++◌, All, IfOk, IsFalse, IsTrue, List as Items, OnOk, false, length, map};
 ghost use Rattle.std.specs.List.{Contains};
 ghost use Rattle.rv_words.specs.Bytes.{over};
 ghost use Rattle.rv_words.specs.Ranges.{AreRanges, range_bytes};
@@ -10,8 +10,9 @@ ghost use Rattle.triple_kernel.specs.Rules.{IsDischarged, IsStrengthened, IsWeak
 ghost use Rattle.frame_compose.specs.Rules.{AreWith, IsComposed, IsExtended, IsFramed, further, rest_after};
 ghost use Rattle.frame_compose.specs.Rules as spec;
 ghost use Rattle.proof_text.specs.inner.OwnCode.{IsOwnCode};
-ghost use Rattle.term_arena.specs.Arena.{mem_of};
+ghost use Rattle.term_arena.specs.Arena.{Tree, mem_of};
 ghost use Rattle.held_terms.specs.Held.{AreFactsAt, IsFactAt, fact_of, register_of, side_of, triple_of};
+ghost use Rattle.held_terms.specs.Subterms.{HasFacts, HasSides};
 ghost use Rattle.term_bench.specs.Fine.{AreFineFacts, AreFineMems, AreFineRegisters, IsFineHeld, IsFineSide};
 ghost use Rattle.term_bench.specs.inner.Making.{AddedIfNew, AreFactsOfBoth, ComesFirst, HasParts, MadeIf, number};
 
@@ -83,11 +84,14 @@ pub(crate) fn strengthened<L: Ledger>(
     requires p { IsFineHeld arena.now p.now }
     requires facts { AreFineFacts arena.now facts.now }
     requires pre { IsFineSide arena.now pre.now }
-    ensures { IfOk result (λ o. MadeIf arena.now
+    ensures made { IfOk result (λ o. MadeIf arena.now
         (λ t.
         IsStrengthened (triple_of arena.now p.now) t
         × (t.facts ≡ map (fact_of arena.now) facts.now)
         × (t.pre ≡ side_of arena.now pre.now)) o) }
+    ensures steps { (ts : Items Tree)
+        → HasSides arena.now p.now.pre pre.now ts
+        → steps.new ≤ steps.old + 2 * (length ts * length ts) }
 {
     let t = with_parts(alloc, facts, pre, &p.code, &p.post)?;
     let so = is_strengthened(alloc, arena, p, &t, true, steps)?;
@@ -109,11 +113,14 @@ pub(crate) fn weakened<L: Ledger>(
     requires p { IsFineHeld arena.now p.now }
     requires facts { AreFineFacts arena.now facts.now }
     requires post { IsFineSide arena.now post.now }
-    ensures { IfOk result (λ o. MadeIf arena.now
+    ensures made { IfOk result (λ o. MadeIf arena.now
         (λ t.
         IsWeakened (triple_of arena.now p.now) t
         × (t.facts ≡ map (fact_of arena.now) facts.now)
         × (t.post ≡ side_of arena.now post.now)) o) }
+    ensures steps { (ts : Items Tree)
+        → HasSides arena.now p.now.post post.now ts
+        → steps.new ≤ steps.old + 2 * (length ts * length ts) }
 {
     let t = with_parts(alloc, facts, &p.pre, &p.code, post)?;
     let so = is_weakened(alloc, arena, p, &t, true, steps)?;
@@ -133,10 +140,14 @@ pub(crate) fn discharged<L: Ledger>(
 ) -> Result<Option<Held>, NoMemory>
     requires p { IsFineHeld arena.now p.now }
     requires facts { AreFineFacts arena.now facts.now }
-    ensures { IfOk result (λ o. MadeIf arena.now
+    ensures made { IfOk result (λ o. MadeIf arena.now
         (λ t.
         IsDischarged (triple_of arena.now p.now) t × (t.facts ≡ map (fact_of arena.now) facts.now))
         o) }
+    ensures steps { (ts : Items Tree)
+        → HasFacts arena.now p.now.facts ts
+        → HasFacts arena.now facts.now ts
+        → steps.new ≤ steps.old + (2 * (length ts * length ts) + 2 * length ts) }
 {
     let t = with_parts(alloc, facts, &p.pre, &p.code, &p.post)?;
     let so = is_discharged(alloc, arena, p, &t, true, steps)?;

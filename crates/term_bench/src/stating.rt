@@ -1,21 +1,23 @@
 //! The triples that short lines state, made over numbers.
 
-ghost use Rattle.std.specs.Prelude.{◌≡◌, IfOk, IfSome, IsSomeAnd, IsTrue, map, option_map, true};
+ghost use Rattle.std.specs.Prelude.{◌≡◌, ◌≤◌, ◌+◌, ◌*◌, IfOk, IfSome, IsSomeAnd, IsTrue, List as Items, length, map, option_map, true};
 ghost use Rattle.std.specs.Option.{option_copied};
 ghost use Rattle.tailrec_lang.specs.Tree.{group_tree};
+ghost use Rattle.triple_kernel.specs.Tree.{TripleTree};
 ghost use Rattle.triple_kernel.specs.Rules.{IsDischarged, IsInst, IsStrengthened, IsWeakened};
 ghost use Rattle.frame_compose.specs.Rules.{IsComposed, IsExtended, IsFramed, further, rest_after};
 ghost use Rattle.loop_rule.specs.Rule.{IsExit};
 ghost use Rattle.proof_text.specs.Line.{code_or_own};
 ghost use Rattle.proof_text.specs.inner.OwnCode.{IsOwnCode};
-ghost use Rattle.term_arena.specs.Arena.{Extends, mem_of};
+ghost use Rattle.term_arena.specs.Arena.{Extends, Tree, mem_of};
 ghost use Rattle.held_terms.specs.Held.{fact_of, register_of, side_of, triple_of};
 ghost use Rattle.held_terms.specs.Image.{IsSubAt, put_for_numbers};
+ghost use Rattle.held_terms.specs.Subterms.{HasFacts, HasSide};
 ghost use Rattle.short_text.specs.SpelledShort.{short_or_own};
 ghost use Rattle.term_bench.specs.Bench.{held_by_number, history_from, is_closed_in, theorem_at};
 ghost use Rattle.term_bench.specs.Fine.{AreFineFacts, AreFineMems, AreFineRegisters, IsFineHeld, IsFineSide};
 ghost use Rattle.term_bench.specs.Short.{AreFineAt, IsFineShort, IsStatedBy};
-ghost use Rattle.term_bench.specs.inner.Depths.{AreDepths};
+ghost use Rattle.term_bench.specs.Terms.{HasShort, HasSubterms, is_copied, pair_steps, theorem_terms, triple_terms};
 ghost use Rattle.term_bench.specs.inner.Making.{MadeIf};
 ghost use Rattle.term_bench.specs.inner.Marks.{HaveCode};
 
@@ -42,7 +44,6 @@ pub(crate) fn stated_by<L: Ledger>(
     g: &Group,
     code: &SharedCode,
     arena: &mut Arena,
-    depths: &mut List<u8>,
     images: &mut ImageTable,
     held: &BTreeMap<u64, Held>,
     marked: &BTreeSet<u64>,
@@ -56,21 +57,21 @@ pub(crate) fn stated_by<L: Ledger>(
     requires held { AreFineAt arena.old held.now.entries }
     requires marked { HaveCode g.now.code.ranges held.now.entries marked.now }
     requires line { IsFineShort arena.old (short_or_own g.now.code.ranges all line.now) }
-    requires depths { AreDepths arena.old depths.old }
     ensures made { IfOk result (λ o.
         MadeIf arena.new
         (IsStatedBy (group_tree g.now) (history_from 0 arena.old held.now.entries closed.now)
         arena.old (short_or_own g.now.code.ranges all line.now)) o) }
     ensures grows { Extends arena.old arena.new }
-    ensures depths { AreDepths arena.new depths.new }
+    ensures steps { is_copied line.now ≡ true → steps.new ≡ steps.old }
+    ensures most { (ts : Items Tree)
+        → HasShort (group_tree g.now) (theorem_at arena.old held.now.entries) arena.old line.now ts
+        → steps.new ≤ steps.old + pair_steps ts }
 {
     match line {
-        Short::Axiom(addr, word, form) => axiom(alloc, arena, depths, *addr, *word, *form, steps),
-        Short::Inst(p, words, mems) => by_inst(
-            alloc, arena, depths, images, held, *p, words, mems, steps,
-        ),
+        Short::Axiom(addr, word, form) => axiom(alloc, arena, *addr, *word, *form, steps),
+        Short::Inst(p, words, mems) => by_inst(alloc, arena, images, held, *p, words, mems, steps),
         Short::UseExit(def, number) => {
-            by_use_exit(alloc, g, code, arena, depths, closed, *def, *number, steps)
+            by_use_exit(alloc, g, code, arena, closed, *def, *number, steps)
         }
         Short::Frame(p, regs, mems) => by_frame(alloc, arena, held, *p, regs, mems),
         Short::ExtendCode(p, more) => {
@@ -102,7 +103,6 @@ fn fine_theorem<'a>(arena: &Arena, held: &'a BTreeMap<u64, Held>, k: u64) -> Opt
 fn by_inst<L: Ledger>(
     alloc: Global,
     arena: &mut Arena,
-    depths: &mut List<u8>,
     images: &mut ImageTable,
     held: &BTreeMap<u64, Held>,
     p: u64,
@@ -112,26 +112,18 @@ fn by_inst<L: Ledger>(
 ) -> Result<Option<Held>, NoMemory>
     requires held { AreFineAt arena.old held.now.entries }
     requires sub { IsSubAt arena.old words.now mems.now }
-    requires depths { AreDepths arena.old depths.old }
     ensures made { IfOk result (λ o. MadeIf arena.new
         (λ t. IsSomeAnd (theorem_at arena.old held.now.entries p) (λ q.
         IsInst (put_for_numbers arena.old words.now mems.now) q t)) o) }
     ensures grows { Extends arena.old arena.new }
-    ensures depths { AreDepths arena.new depths.new }
+    ensures steps { (ts : Items Tree)
+        → HasSubterms ts (theorem_terms (theorem_at arena.old held.now.entries p))
+        → steps.new ≤ steps.old + 2 * length ts }
 {
     match fine_theorem(arena, held, p) {
         Some(q) => {
             let words = words.as_slice();
-            let made = put_in(
-                alloc,
-                arena,
-                depths,
-                images,
-                q,
-                words,
-                mems.as_slice(),
-                steps,
-            )?;
+            let made = put_in(alloc, arena, images, q, words, mems.as_slice(), steps)?;
             Ok(made)
         }
         None => Ok(None),
@@ -143,7 +135,6 @@ fn by_use_exit<L: Ledger>(
     g: &Group,
     code: &SharedCode,
     arena: &mut Arena,
-    depths: &mut List<u8>,
     closed: &[bool],
     def: u32,
     number: u32,
@@ -151,16 +142,19 @@ fn by_use_exit<L: Ledger>(
 ) -> Result<Option<Held>, NoMemory>
     requires code { IsOwnCode g.now.code.ranges }
     requires shared { code.now.ranges ≡ g.now.code.ranges }
-    requires depths { AreDepths arena.old depths.old }
     ensures made { IfOk result (λ o. MadeIf arena.new
         (λ t. (is_closed_in closed.now def ≡ true) × IsExit (group_tree g.now) def number t) o) }
     ensures grows { Extends arena.old arena.new }
-    ensures depths { AreDepths arena.new depths.new }
+    ensures steps { (ts : Items Tree)
+        → ((t : TripleTree)
+        → IsExit (group_tree g.now) def number t
+        → HasSubterms ts (triple_terms t))
+        → steps.new ≤ steps.old + (4 * length ts + 2) }
 {
     if !is_closed(closed, def) {
         return Ok(None);
     }
-    exit(alloc, arena, depths, g, code, def, number, steps)
+    exit(alloc, arena, g, code, def, number, steps)
 }
 
 fn by_frame(
@@ -329,11 +323,15 @@ fn by_strengthen<L: Ledger>(
     requires held { AreFineAt arena.now held.now.entries }
     requires facts { AreFineFacts arena.now facts.now }
     requires pre { IsFineSide arena.now pre.now }
-    ensures { IfOk result (λ o. MadeIf arena.now
+    ensures made { IfOk result (λ o. MadeIf arena.now
         (λ t. IsSomeAnd (theorem_at arena.now held.now.entries p) (λ q.
         IsStrengthened q t
         × (t.facts ≡ map (fact_of arena.now) facts.now)
         × (t.pre ≡ side_of arena.now pre.now))) o) }
+    ensures steps { (ts : Items Tree)
+        → HasSubterms ts (theorem_terms (theorem_at arena.now held.now.entries p))
+        → HasSide arena.now pre.now ts
+        → steps.new ≤ steps.old + 2 * (length ts * length ts) }
 {
     match fine_theorem(arena, held, p) {
         Some(q) => strengthened(alloc, arena, q, facts.as_slice(), pre, steps),
@@ -353,11 +351,15 @@ fn by_weaken<L: Ledger>(
     requires held { AreFineAt arena.now held.now.entries }
     requires facts { AreFineFacts arena.now facts.now }
     requires post { IsFineSide arena.now post.now }
-    ensures { IfOk result (λ o. MadeIf arena.now
+    ensures made { IfOk result (λ o. MadeIf arena.now
         (λ t. IsSomeAnd (theorem_at arena.now held.now.entries p) (λ q.
         IsWeakened q t
         × (t.facts ≡ map (fact_of arena.now) facts.now)
         × (t.post ≡ side_of arena.now post.now))) o) }
+    ensures steps { (ts : Items Tree)
+        → HasSubterms ts (theorem_terms (theorem_at arena.now held.now.entries p))
+        → HasSide arena.now post.now ts
+        → steps.new ≤ steps.old + 2 * (length ts * length ts) }
 {
     match fine_theorem(arena, held, p) {
         Some(q) => weakened(alloc, arena, q, facts.as_slice(), post, steps),
@@ -375,9 +377,13 @@ fn by_discharge<L: Ledger>(
 ) -> Result<Option<Held>, NoMemory>
     requires held { AreFineAt arena.now held.now.entries }
     requires facts { AreFineFacts arena.now facts.now }
-    ensures { IfOk result (λ o. MadeIf arena.now
+    ensures made { IfOk result (λ o. MadeIf arena.now
         (λ t. IsSomeAnd (theorem_at arena.now held.now.entries p) (λ q.
         IsDischarged q t × (t.facts ≡ map (fact_of arena.now) facts.now))) o) }
+    ensures steps { (ts : Items Tree)
+        → HasSubterms ts (theorem_terms (theorem_at arena.now held.now.entries p))
+        → HasFacts arena.now facts.now ts
+        → steps.new ≤ steps.old + (2 * (length ts * length ts) + 2 * length ts) }
 {
     match fine_theorem(arena, held, p) {
         Some(q) => discharged(alloc, arena, q, facts.as_slice(), steps),

@@ -8,7 +8,6 @@ use Rattle.proof_text.specs.inner.OwnCode.{IsOwnCode}
 use Rattle.term_bench.specs.inner.Exits.{IsExitPut}
 use Rattle.term_bench.proofs.ComputedLemmas.{made_one}
 use Rattle.term_bench.proofs.ShortLemmas.{one_exit}
-use Rattle.term_bench.proofs.DepthLemmas.{depths_stay}
 use Rattle.term_bench.proofs.computed.exit.Goals as goal
 
 pub if_within-requires-clause-code : goal.if_within-requires-clause-code
@@ -23,7 +22,7 @@ returns-clause-made g c =
     let tree = group_tree c.args.g.now in
     let u = triple_of new c.in-Some.h in
     let put : IsExitPut new tree c.args.def c.args.number (Some c.in-Some.h) = subst (λ (o : Option Held). IsExitPut new tree c.args.def c.args.number o) c.in-Some.is c.in_ok-found.ensures.put in
-    made_one new (λ t. IsExit tree c.args.def c.args.number t) u put.1 (λ t x. one_exit tree c.args.def c.args.number t u x put.1) c.in_ok-made.made c.in_ok-made.ensures.made
+    made_one new (λ t. IsExit tree c.args.def c.args.number t) u put.1 (λ t x. one_exit tree c.args.def c.args.number t u x put.1) c.if_within.result c.if_within.ensures
 
 pub returns-in_default-clause-made : goal.returns-in_default-clause-made
 returns-in_default-clause-made g c =
@@ -31,11 +30,11 @@ returns-in_default-clause-made g c =
     let none : (t : TripleTree) → IsExit tree c.args.def c.args.number t → ⊥ = subst (λ (o : Option Held). IsExitPut c.exit_held.new.arena tree c.args.def c.args.number o) c.in_default.is c.in_ok-found.ensures.put in
     λ t fits e. none t e
 
-pub returns-in_err-found-clause-depths : goal.returns-in_err-found-clause-depths
-returns-in_err-found-clause-depths g c = depths_stay c.args.arena.now c.exit_held.new.arena c.args.depths.now c.exit_held.ensures.grows c.requires.depths
+pub returns-in_err-found-clause-steps : goal.returns-in_err-found-clause-steps
+returns-in_err-found-clause-steps g c = c.exit_held.ensures.steps
 
-pub returns-in_default-clause-depths : goal.returns-in_default-clause-depths
-returns-in_default-clause-depths g c = depths_stay c.args.arena.now c.exit_held.new.arena c.args.depths.now c.exit_held.ensures.grows c.requires.depths
+pub returns-in_default-clause-steps : goal.returns-in_default-clause-steps
+returns-in_default-clause-steps g c = c.exit_held.ensures.steps
 
-pub if_within-requires-clause-depths : goal.if_within-requires-clause-depths
-if_within-requires-clause-depths g c = depths_stay c.args.arena.now c.exit_held.new.arena c.args.depths.now c.exit_held.ensures.grows c.requires.depths
+pub returns-clause-steps : goal.returns-clause-steps
+returns-clause-steps g c = c.exit_held.ensures.steps

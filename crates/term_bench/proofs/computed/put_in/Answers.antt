@@ -6,7 +6,7 @@ use Rattle.proof_text.specs.inner.OwnCode.{IsOwnCode}
 use Rattle.term_bench.proofs.ComputedLemmas.{made_one}
 use Rattle.term_bench.proofs.MakingLemmas.{fine_code}
 use Rattle.term_bench.proofs.ShortLemmas.{one_inst}
-use Rattle.term_bench.proofs.DepthLemmas.{depths_stay}
+use Rattle.term_bench.proofs.SubtermLemmas.{held_at}
 use Rattle.term_bench.proofs.computed.put_in.Goals as goal
 
 pub if_within-requires-clause-code : goal.if_within-requires-clause-code
@@ -19,10 +19,10 @@ returns-clause-made g c =
     let s = put_for_numbers old c.args.words.now c.args.mems.now in
     let p = triple_of old c.args.p.now in
     let u = triple_of new c.in_ok-h.h in
-    made_one new (λ t. IsInst s p t) u c.in_ok-h.ensures.instance (λ t i. one_inst p t u s i c.in_ok-h.ensures.instance) c.in_ok-made.made c.in_ok-made.ensures.made
+    made_one new (λ t. IsInst s p t) u c.in_ok-h.ensures.instance (λ t i. one_inst p t u s i c.in_ok-h.ensures.instance) c.if_within.result c.if_within.ensures
 
-pub returns-in_err-h-clause-depths : goal.returns-in_err-h-clause-depths
-returns-in_err-h-clause-depths g c = depths_stay c.args.arena.now c.instance.new.arena c.args.depths.now c.instance.ensures.grows c.requires.depths
+pub returns-in_err-h-clause-steps : goal.returns-in_err-h-clause-steps
+returns-in_err-h-clause-steps g c = λ ts has. c.instance.ensures.steps ts (held_at ts c.args.arena.now c.args.p.now c.requires.p.there has)
 
-pub if_within-requires-clause-depths : goal.if_within-requires-clause-depths
-if_within-requires-clause-depths g c = depths_stay c.args.arena.now c.instance.new.arena c.args.depths.now c.instance.ensures.grows c.requires.depths
+pub returns-clause-steps : goal.returns-clause-steps
+returns-clause-steps g c = λ ts has. c.instance.ensures.steps ts (held_at ts c.args.arena.now c.args.p.now c.requires.p.there has)

@@ -1,4 +1,4 @@
-use Rattle.std.proofs.Common.{map}
+use Rattle.std.proofs.Common.{◌+◌, ◌≤◌, map}
 use Rattle.std.specs.List.{range_with_len}
 use Rattle.word_terms.specs.Tree.{MemVar}
 use Rattle.term_arena.specs.Arena.{Extends}
@@ -8,5 +8,6 @@ use Rattle.term_bench.proofs.exits.mem_variables.Given as goal
 abbrev pub invariant-loop-i : goal.invariant-loop-i
 invariant-loop-i g l = record {
   grows : Extends l.fn.arena l.arena;
+  steps : l.steps ≤ l.fn.steps + l.i;
   put : AreMemsPut l.arena l.list (map MemVar (range_with_len l.first l.i));
 }

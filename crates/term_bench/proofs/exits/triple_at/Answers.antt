@@ -1,9 +1,10 @@
-use Rattle.std.proofs.Common.{ℕ, subst, ◌∙◌}
+use Rattle.std.proofs.Common.{ℕ, subst, ◌∙◌, arith}
 use Rattle.tailrec_lang.specs.Tree.{def_tree, group_tree}
 use Rattle.tailrec_lang.specs.WellFormed.{exit_words}
 use Rattle.loop_rule.specs.Leaves.{variables_after}
 use Rattle.term_bench.specs.inner.Put.{IsValuesPut}
 use Rattle.term_bench.proofs.ExitParts.{exit_put}
+use Rattle.term_bench.proofs.ExitSteps.{exit_within}
 use Rattle.term_bench.proofs.PutLemmas.{values_stay}
 use Rattle.term_bench.proofs.exits.triple_at.Goals as goal
 
@@ -25,4 +26,74 @@ returns-clause-put g c =
     let counted = subst (λ (n : ℕ). IsValuesPut n2 c.in_ok-results.results (variables_after c.len-words.result mems n mems)) c.results_at.ensures c.in_ok-results.ensures.put in
     let results = subst (λ (n : ℕ). IsValuesPut n2 c.in_ok-results.results (variables_after n mems (exit_words tree c.args.x) mems)) c.len-words.ensures counted in
     exit_put tree c.args.d (def_tree c.args.def.now) c.args.exit c.args.x n1 n2 n3 n4 c.variables-2.ensures.grows c.entry_side.ensures.grows c.exit_side.ensures.grows c.in_ok-args.args c.in_ok-results.results
-    c.in_ok-pre.pre c.in_ok-post.post c.in_ok-facts.facts c.in_ok-code.code args results c.in_ok-pre.ensures.put c.in_ok-post.ensures.put c.in_ok-facts.ensures (c.in_ok-code.ensures ∙ c.requires)
+    c.in_ok-pre.pre c.in_ok-post.post c.in_ok-facts.facts c.in_ok-code.code args results c.in_ok-pre.ensures.put c.in_ok-post.ensures.put c.in_ok-facts.ensures (c.in_ok-code.ensures ∙ c.requires.code)
+
+pub returns-in_err-args-clause-steps : goal.returns-in_err-args-clause-steps
+returns-in_err-args-clause-steps g c = λ ts has.
+    let words = c.len-words.ensures in
+    let a = c.variables.ensures.steps in
+    let enough = exit_within ts (group_tree c.args.g.now) c.args.d c.args.exit (def_tree c.args.def.now) c.args.x (has _ c.requires.exit) in
+    omega (arith, words, a, enough)
+
+pub returns-in_err-results-clause-steps : goal.returns-in_err-results-clause-steps
+returns-in_err-results-clause-steps g c = λ ts has.
+    let words = c.len-words.ensures in
+    let a = c.variables.ensures.steps in
+    let counted = c.results_at.ensures in
+    let b = c.variables-2.ensures.steps in
+    let enough = exit_within ts (group_tree c.args.g.now) c.args.d c.args.exit (def_tree c.args.def.now) c.args.x (has _ c.requires.exit) in
+    omega (arith, words, a, counted, b, enough)
+
+pub returns-in_err-pre-clause-steps : goal.returns-in_err-pre-clause-steps
+returns-in_err-pre-clause-steps g c = λ ts has.
+    let words = c.len-words.ensures in
+    let a = c.variables.ensures.steps in
+    let counted = c.results_at.ensures in
+    let b = c.variables-2.ensures.steps in
+    let p = c.entry_side.ensures.steps in
+    let enough = exit_within ts (group_tree c.args.g.now) c.args.d c.args.exit (def_tree c.args.def.now) c.args.x (has _ c.requires.exit) in
+    omega (arith, words, a, counted, b, p, enough)
+
+pub returns-in_err-post-clause-steps : goal.returns-in_err-post-clause-steps
+returns-in_err-post-clause-steps g c = λ ts has.
+    let words = c.len-words.ensures in
+    let a = c.variables.ensures.steps in
+    let counted = c.results_at.ensures in
+    let b = c.variables-2.ensures.steps in
+    let p = c.entry_side.ensures.steps in
+    let q = c.exit_side.ensures.steps in
+    let enough = exit_within ts (group_tree c.args.g.now) c.args.d c.args.exit (def_tree c.args.def.now) c.args.x (has _ c.requires.exit) in
+    omega (arith, words, a, counted, b, p, q, enough)
+
+pub returns-in_err-facts-clause-steps : goal.returns-in_err-facts-clause-steps
+returns-in_err-facts-clause-steps g c = λ ts has.
+    let words = c.len-words.ensures in
+    let a = c.variables.ensures.steps in
+    let counted = c.results_at.ensures in
+    let b = c.variables-2.ensures.steps in
+    let p = c.entry_side.ensures.steps in
+    let q = c.exit_side.ensures.steps in
+    let enough = exit_within ts (group_tree c.args.g.now) c.args.d c.args.exit (def_tree c.args.def.now) c.args.x (has _ c.requires.exit) in
+    omega (arith, words, a, counted, b, p, q, enough)
+
+pub returns-in_err-code-clause-steps : goal.returns-in_err-code-clause-steps
+returns-in_err-code-clause-steps g c = λ ts has.
+    let words = c.len-words.ensures in
+    let a = c.variables.ensures.steps in
+    let counted = c.results_at.ensures in
+    let b = c.variables-2.ensures.steps in
+    let p = c.entry_side.ensures.steps in
+    let q = c.exit_side.ensures.steps in
+    let enough = exit_within ts (group_tree c.args.g.now) c.args.d c.args.exit (def_tree c.args.def.now) c.args.x (has _ c.requires.exit) in
+    omega (arith, words, a, counted, b, p, q, enough)
+
+pub returns-clause-steps : goal.returns-clause-steps
+returns-clause-steps g c = λ ts has.
+    let words = c.len-words.ensures in
+    let a = c.variables.ensures.steps in
+    let counted = c.results_at.ensures in
+    let b = c.variables-2.ensures.steps in
+    let p = c.entry_side.ensures.steps in
+    let q = c.exit_side.ensures.steps in
+    let enough = exit_within ts (group_tree c.args.g.now) c.args.d c.args.exit (def_tree c.args.def.now) c.args.x (has _ c.requires.exit) in
+    omega (arith, words, a, counted, b, p, q, enough)

@@ -1,9 +1,8 @@
-use Rattle.term_arena.specs.Arena.{OfMem, mem_of}
-use Rattle.term_bench.proofs.LimitLemmas.{depth_there, depth_tells}
+use Rattle.term_arena.proofs.TreeLemmas.{number_within}
 use Rattle.term_bench.proofs.limits.is_mem.Goals as goal
 
-pub bounds-depths-k : goal.bounds-depths-k
-bounds-depths-k c = depth_there c.args.arena.now c.args.depths.now c.requires.depths c.args.k (OfMem (mem_of c.args.arena.now c.args.k)) c.requires.there
+pub fits-requires : goal.fits-requires
+fits-requires c = number_within c.args.arena.now c.args.k _ c.requires
 
 pub returns : goal.returns
-returns c = depth_tells c.args.arena.now c.args.depths.now c.requires.depths c.args.k (OfMem (mem_of c.args.arena.now c.args.k)) c.requires.there
+returns c = c.fits.ensures _ c.requires

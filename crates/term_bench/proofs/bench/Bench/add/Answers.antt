@@ -2,7 +2,6 @@ use Rattle.std.proofs.Common.{ap, sym, ◌∙◌, subst}
 use Rattle.term_arena.specs.Arena.{AreChildren}
 use Rattle.term_bench.specs.Bench.{BenchState, state_history, state_nodes}
 use Rattle.term_bench.proofs.BenchLemmas.{history_stays, sound_grown}
-use Rattle.term_bench.proofs.DepthLemmas.{depths_stay}
 use Rattle.term_bench.proofs.bench.Bench.add.Goals as goal
 
 pub add-requires : goal.add-requires
@@ -12,7 +11,7 @@ pub invariant_of-self : goal.invariant_of-self
 invariant_of-self g c =
     let s = c.self.inside in
     let grows = c.add.ensures.grows in
-    (sound_grown s.arena c.add.new.self grows s.group.now s.held.entries s.next s.closed c.self.invariant.0, depths_stay s.arena c.add.new.self s.depths grows c.self.invariant.1, c.self.invariant.2)
+    (sound_grown s.arena c.add.new.self grows s.group.now s.held.entries s.next s.closed c.self.invariant.0, c.self.invariant.1)
 
 pub returns-clause-same : goal.returns-clause-same
 returns-clause-same g c =

@@ -4,7 +4,6 @@ use Rattle.term_arena.specs.Arena.{Extends}
 use Rattle.held_terms.specs.Held.{IsHeldAt, triple_of}
 use Rattle.term_bench.specs.Bench.{BenchState, state_group, state_history, state_nodes}
 use Rattle.term_bench.proofs.BenchLemmas.{history_stays, sound_grown}
-use Rattle.term_bench.proofs.DepthLemmas.{depths_stay}
 use Rattle.term_bench.proofs.bench.Bench.by_further.Goals as goal
 
 pub by_further-requires-clause-held : goal.by_further-requires-clause-held
@@ -14,7 +13,7 @@ pub by_further-requires-clause-stated : goal.by_further-requires-clause-stated
 by_further-requires-clause-stated g c = subst (λ (k : BenchState). IsHeldAt (state_nodes k) c.args.put.now) (sym c.self.view_is) c.requires.put
 
 pub is_known-known-requires-clause-marked : goal.is_known-known-requires-clause-marked
-is_known-known-requires-clause-marked g c = c.self.invariant.2.theorems
+is_known-known-requires-clause-marked g c = c.self.invariant.1.theorems
 
 pub is_known-known-requires-clause-own : goal.is_known-known-requires-clause-own
 is_known-known-requires-clause-own g c = λ own. c.requires.own own ∙ sym (ap (λ (k : BenchState). (state_group k).code) c.self.view_is)
@@ -23,7 +22,7 @@ pub invariant_of-self : goal.invariant_of-self
 invariant_of-self g c =
     let s = c.self.inside in
     let grows = c.by_further.ensures.grows in
-    (sound_grown s.arena c.by_further.new.arena grows s.group.now s.held.entries s.next s.closed c.self.invariant.0, depths_stay s.arena c.by_further.new.arena s.depths grows c.self.invariant.1, c.self.invariant.2)
+    (sound_grown s.arena c.by_further.new.arena grows s.group.now s.held.entries s.next s.closed c.self.invariant.0, c.self.invariant.1)
 
 pub returns-clause-same : goal.returns-clause-same
 returns-clause-same g c =

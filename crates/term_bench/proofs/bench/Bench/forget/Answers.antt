@@ -14,10 +14,9 @@ invariant_of-self c =
     let after = c.law_of_lines.ensures (state_group old) c.law_of_bench.ensures.well_formed (state_history old) c.law_of_bench.ensures.sound (Forget c.args.k) (sym c.is_held.ensures ∙ c.if-not-is_held.false) in
     let sound = subst (λ (k : BenchState). Sound (state_group k) (without c.args.k (state_history k))) (sym c.self.view_is) after in (
       sound_less s.group.now s.arena s.held.entries s.next s.closed c.remove.new.self.entries c.args.k c.remove.ensures.updates.0 c.self.invariant.0 sound,
-      c.self.invariant.1,
       record {
-        code = c.self.invariant.2.code;
-        theorems = unmarked_changed s.group.now.code.ranges s.held.entries c.remove.new.self.entries s.marked c.remove-2.new.self c.args.k None c.remove-2.ensures.updates.0 c.remove.ensures.updates.0 c.self.invariant.2.theorems;
+        code = c.self.invariant.1.code;
+        theorems = unmarked_changed s.group.now.code.ranges s.held.entries c.remove.new.self.entries s.marked c.remove-2.new.self c.args.k None c.remove-2.ensures.updates.0 c.remove.ensures.updates.0 c.self.invariant.1.theorems;
       },
     )
 

@@ -5,20 +5,19 @@ use Rattle.loop_rule.specs.Rule.{IsClosedBy}
 use Rattle.term_bench.specs.Bench.{BenchState, state_group, state_history, state_nodes}
 use Rattle.term_bench.specs.Terms.{closing_terms, nodes_of}
 use Rattle.term_bench.proofs.BenchLemmas.{history_stays, sound_grown}
-use Rattle.term_bench.proofs.DepthLemmas.{depths_stay}
 use Rattle.term_bench.proofs.bench.Bench.is_closed_by.Goals as goal
 
 pub is_closed_by-requires-clause-held : goal.is_closed_by-requires-clause-held
 is_closed_by-requires-clause-held g c = c.self.invariant.0.there
 
 pub is_closed_by-requires-clause-marked : goal.is_closed_by-requires-clause-marked
-is_closed_by-requires-clause-marked g c = c.self.invariant.2.theorems
+is_closed_by-requires-clause-marked g c = c.self.invariant.1.theorems
 
 pub invariant_of-self : goal.invariant_of-self
 invariant_of-self g c =
     let s = c.self.inside in
     let grows = c.is_closed_by.ensures.grows in
-    (sound_grown s.arena c.is_closed_by.new.arena grows s.group.now s.held.entries s.next s.closed c.self.invariant.0, depths_stay s.arena c.is_closed_by.new.arena s.depths grows c.self.invariant.1, c.self.invariant.2)
+    (sound_grown s.arena c.is_closed_by.new.arena grows s.group.now s.held.entries s.next s.closed c.self.invariant.0, c.self.invariant.1)
 
 pub returns-clause-same : goal.returns-clause-same
 returns-clause-same g c =

@@ -14,12 +14,11 @@ invariant_of-self-2 c =
     let there = subst (λ (k : BenchState). IsHeldAt (state_nodes k) h) (sym c.self.view_is) c.requires.there in
     let sound = subst (λ (k : BenchState). Sound (state_group k) (with_theorem (triple_of (state_nodes k) h) (state_history k))) (sym c.self.view_is) c.requires.sound in (
       sound_more s.group.now s.arena s.held.entries s.next s.closed c.insert.new.self.entries c.in-Some.next h c.in_ok-insert.ensures.updates.0 c.in-Some.ensures.1 c.self.invariant.0 there sound,
-      c.self.invariant.1,
       record {
-        code = c.self.invariant.2.code;
+        code = c.self.invariant.1.code;
         theorems = c.mark.ensures s.group.now.code.ranges s.held.entries c.insert.new.self.entries h c.in_ok-insert.ensures.updates.0
             (λ is. c.requires.own is ∙ sym (ap (λ (k : BenchState). (state_group k).code) c.self.view_is))
-            (unmarked_changed s.group.now.code.ranges s.held.entries c.insert.new.self.entries s.marked c.remove.new.self s.next (Some h) c.remove.ensures.updates.0 c.in_ok-insert.ensures.updates.0 c.self.invariant.2.theorems);
+            (unmarked_changed s.group.now.code.ranges s.held.entries c.insert.new.self.entries s.marked c.remove.new.self s.next (Some h) c.remove.ensures.updates.0 c.in_ok-insert.ensures.updates.0 c.self.invariant.1.theorems);
       },
     )
 

@@ -12,7 +12,6 @@ use Rattle.term_bench.specs.Terms.{HasSubterms, premise_terms}
 use Rattle.term_bench.specs.inner.Put.{IsHeldPut}
 use Rattle.term_bench.proofs.BenchLemmas.{history_stays, sound_grown}
 use Rattle.term_bench.proofs.RuleLemmas.{same_next}
-use Rattle.term_bench.proofs.DepthLemmas.{depths_stay}
 use Rattle.term_bench.proofs.bench.Bench.meets.Goals as goal
 
 pub meets-requires-clause-held : goal.meets-requires-clause-held
@@ -22,7 +21,7 @@ pub meets-requires-clause-put : goal.meets-requires-clause-put
 meets-requires-clause-put g c = subst (λ (k : BenchState). IsHeldPut (state_nodes k) c.args.put.now (triple_or_own (state_group k).code c.args.own (triple_tree c.args.stated.now))) (sym c.self.view_is) c.requires.put
 
 pub meets-requires-clause-marked : goal.meets-requires-clause-marked
-meets-requires-clause-marked g c = c.self.invariant.2.theorems
+meets-requires-clause-marked g c = c.self.invariant.1.theorems
 
 pub meets-requires-clause-own : goal.meets-requires-clause-own
 meets-requires-clause-own g c = λ own. c.requires.own own ∙ sym (ap (λ (k : BenchState). (state_group k).code) c.self.view_is)
@@ -31,7 +30,7 @@ pub invariant_of-self : goal.invariant_of-self
 invariant_of-self g c =
     let s = c.self.inside in
     let grows = c.meets.ensures.grows in
-    (sound_grown s.arena c.meets.new.arena grows s.group.now s.held.entries s.next s.closed c.self.invariant.0, depths_stay s.arena c.meets.new.arena s.depths grows c.self.invariant.1, c.self.invariant.2)
+    (sound_grown s.arena c.meets.new.arena grows s.group.now s.held.entries s.next s.closed c.self.invariant.0, c.self.invariant.1)
 
 pub returns-clause-same : goal.returns-clause-same
 returns-clause-same g c =

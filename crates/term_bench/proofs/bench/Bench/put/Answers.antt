@@ -2,14 +2,13 @@ use Rattle.std.proofs.Common.{ap, ◌∙◌, subst}
 use Rattle.term_arena.specs.Arena.{Extends}
 use Rattle.term_bench.specs.Bench.{BenchState, state_history, state_nodes}
 use Rattle.term_bench.proofs.BenchLemmas.{history_stays, sound_grown}
-use Rattle.term_bench.proofs.DepthLemmas.{depths_stay}
 use Rattle.term_bench.proofs.bench.Bench.put.Goals as goal
 
 pub invariant_of-self : goal.invariant_of-self
 invariant_of-self g c =
     let s = c.self.inside in
     let grows = c.put_over.ensures.grows in
-    (sound_grown s.arena c.put_over.new.arena grows s.group.now s.held.entries s.next s.closed c.self.invariant.0, depths_stay s.arena c.put_over.new.arena s.depths grows c.self.invariant.1, c.self.invariant.2)
+    (sound_grown s.arena c.put_over.new.arena grows s.group.now s.held.entries s.next s.closed c.self.invariant.0, c.self.invariant.1)
 
 pub returns-clause-same : goal.returns-clause-same
 returns-clause-same g c =

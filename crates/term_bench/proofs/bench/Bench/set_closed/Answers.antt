@@ -16,7 +16,6 @@ invariant_of-self c =
     let sound = subst (λ (k : BenchState). Sound (state_group k) (with_closed c.args.def (state_history k))) (sym c.self.view_is) c.requires.sound in (
       subst (λ (cs : List Bool). IsSoundState (s.group.now, s.arena, s.held.entries, s.next, cs)) (sym c.set.ensures) (sound_closed s.group.now s.arena s.held.entries s.next s.closed c.args.def low c.self.invariant.0 sound),
       c.self.invariant.1,
-      c.self.invariant.2,
     )
 
 pub returns-clause-after : goal.returns-clause-after
