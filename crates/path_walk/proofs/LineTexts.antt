@@ -1,5 +1,5 @@
 -- The lines of an instruction and of a call have a text.
-use Rattle.std.proofs.Common.{◌≡◌, ℕ, zero, suc, ◌+◌, ◌^◌, ◌<◌, ◌≤◌, List, [], ◌∷◌, ◌++◌, map, length, Bool, true, false, cond, not, filter, eqb, refl, sym, ap, ◌∙◌, subst, arith, mod-lt, eqb-true, length-append, Some, inl, inr, ◌/◌, Contains}
+use Rattle.std.proofs.Common.{◌≡◌, ℕ, zero, suc, ◌+◌, ◌^◌, ◌<◌, ◌≤◌, List, [], ◌∷◌, ◌++◌, map, length, Bool, true, false, cond, not, filter, eqb, refl, sym, ap, ◌∙◌, subst, arith, mod-lt, length-append, Some, inl, inr, ◌/◌, Contains}
 use Rattle.std.specs.Int.{byte_at, bytes_low_first, to_le_bytes, w16, w32}
 use Rattle.std.proofs.lemmas.List.FromFn.{length-range_with_len}
 use Rattle.std.specs.List.{AllByRecursion, position_or_len, range_with_len}

@@ -1,12 +1,11 @@
-use Rattle.std.proofs.Common.{◌≡◌, ℕ, true, ◌+◌, ◌^◌, ◌<◌, ◌≤◌, ◌++◌, ap, map, sym, ◌∙◌, subst, arith}
+use Rattle.std.proofs.Common.{◌≡◌, ℕ, true, ◌+◌, ◌^◌, ◌<◌, ◌≤◌, ap, sym, ◌∙◌, subst, arith}
 use Rattle.rv_decode.specs.declared.instruction.Instr.{Instr}
 use Rattle.rvc.specs.Number.{length_of}
-use Rattle.triple_kernel.specs.Tree.{So}
-use Rattle.instr_axioms.specs.Terms.{conditions, has_memory}
+use Rattle.instr_axioms.specs.Terms.{has_memory}
 use Rattle.group_text.specs.declared.version.Version.TheVariants.{Four}
-use Rattle.code_parts.specs.Bodies.{Flow, VariableMap, names}
+use Rattle.code_parts.specs.Bodies.{Flow, VariableMap}
 use Rattle.path_walk.specs.Further.{is_crossed}
-use Rattle.path_walk.specs.inner.Acts.{Acted, IsFineInstruction, act_standing, new_facts}
+use Rattle.path_walk.specs.inner.Acts.{Acted, IsFineInstruction, act_standing}
 use Rattle.code_parts.specs.Kept.{flow_in}
 use Rattle.path_walk.specs.inner.Writers.{CitedTree, writer_tree}
 use Rattle.code_parts.specs.VariableMaps.{place_of}

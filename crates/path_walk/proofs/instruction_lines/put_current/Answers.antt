@@ -1,8 +1,8 @@
 use Rattle.std.proofs.Common.{map, sym, ◌∙◌, subst}
-use Rattle.proof_text.specs.Line.{Axiom, Inst, mem_put_in, word_put_in}
+use Rattle.proof_text.specs.Line.{Axiom, Inst, word_put_in}
 use Rattle.proof_text.specs.LineLimits.{IsRule}
 use Rattle.code_parts.specs.VariableMaps.{place_of}
-use Rattle.path_walk.specs.inner.Acts.{own_mems, own_words}
+use Rattle.path_walk.specs.inner.Acts.{own_mems}
 use Rattle.path_walk.specs.inner.Writers.{writer_tree, stating}
 use Rattle.path_walk.proofs.WriterLemmas.{restated_of}
 use Rattle.path_walk.proofs.instruction_lines.put_current.Goals as goal
