@@ -94,10 +94,10 @@ class Case:
         with open(path, "wb") as file:
             file.write(OLD)
         read, write = os.pipe()
-        setting = {"LD_PRELOAD": self.library, "FAILING": kind, "FROM": str(first), "TO": str(last), "MODE": way, "COUNTS": str(write)}
+        context = {"LD_PRELOAD": self.library, "FAILING": kind, "FROM": str(first), "TO": str(last), "MODE": way, "COUNTS": str(write)}
         words = [self.program, *(out if word == "OUT" else word for word in self.words)]
         try:
-            done = subprocess.run(words, cwd=self.folder, env={**os.environ, **setting}, pass_fds=(write,), capture_output=True)
+            done = subprocess.run(words, cwd=self.folder, env={**os.environ, **context}, pass_fds=(write,), capture_output=True)
         finally:
             os.close(write)
         with os.fdopen(read, "rb") as told:

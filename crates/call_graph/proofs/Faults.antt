@@ -19,7 +19,7 @@ use Rattle.flow_graph.proofs.BuildLemmas.{ok_err}
 use Rattle.flow_graph.proofs.ExactLemmas.{graph_looks}
 use Rattle.flow_graph.proofs.GraphLaws.{one_graph}
 use Rattle.loop_forest.specs.Forest.{IsForestFault, IsMany, number_of}
-use Rattle.loop_forest.proofs.AddressLemmas.{code_settled, shows_code}
+use Rattle.loop_forest.proofs.AddressLemmas.{code_in_post_order, shows_code}
 use Rattle.loop_forest.proofs.OneForest.{no_many}
 use Rattle.call_graph.specs.Calls.{CallsBack, IsFunction}
 use Rattle.call_graph.specs.Causes.{IsCause, IsFaulty, IsLoopFault, IsRecursive, IsCallGraphFault, SizesOver, InCycle, InLoop, InCode, Recursion, InLoops}
@@ -42,7 +42,7 @@ graph_fine code f g a why r w e =
 
 -- a function with a forest has no fault of its loops
 pub regular : (code : Bytes) (f : Function) (why : Fault) → HasFlow code f → IsLoopFault code f.entry why → ⊥
-regular code f _ h (InCycle {cycle} {first} {second} s) = code_settled true code f.entry f.graph (number_of f.forest) h.graph h.forest.settled (record { cycle = cycle; first = first; second = second; shows = s })
+regular code f _ h (InCycle {cycle} {first} {second} s) = code_in_post_order true code f.entry f.graph (number_of f.forest) h.graph h.forest.in_post_order (record { cycle = cycle; first = first; second = second; shows = s })
 regular code f _ h (InLoop {a} g r m) =
     let same : g ≡ f.graph = one_graph true code f.entry g f.graph r h.graph in
     no_many f.graph f.forest a h.forest (subst (λ (z : GraphOf). IsMany z a) same m)

@@ -16,16 +16,16 @@ use Rattle.call_graph.specs.Functions.{AreFunctions, entries_of, size_of}
 use Rattle.call_graph.specs.declared.function.Function.{Function}
 use Rattle.code_parts.specs.declared.callee.Callee.{Callee}
 use Rattle.code_parts.specs.Bodies.{part_def}
-use Rattle.code_parts.specs.Flows.{HaveCode, setting_of}
+use Rattle.code_parts.specs.Flows.{HaveCode, context_of}
 use Rattle.code_parts.specs.Members.{Member, defs_of, flow_at}
 use Rattle.code_parts.proofs.CodeOf.{have_bytes}
 use Rattle.code_parts.proofs.Lists.{length-map}
-use Rattle.linked_group.specs.Groups.{AreSomeFunctions, IsLinkedGroup, functions_of, group_in, is_register_of, load_or_store, member_in, members_of, setting_in}
+use Rattle.linked_group.specs.Groups.{AreSomeFunctions, IsLinkedGroup, functions_of, group_in, is_register_of, load_or_store, member_in, members_of, context_in}
 use Rattle.linked_group.specs.declared.group.LinkedFunction.{LinkedFunction}
 use Rattle.linked_group.specs.declared.group.LinkedGroup.{LinkedGroup}
 use Rattle.linked_group.proofs.Joining.{reached-by}
 use Rattle.linked_group.proofs.Lists.{any-of, in-map, out-map}
-use Rattle.linked_group.proofs.Settings.{order-of, reached-of, linked-of, within-code}
+use Rattle.linked_group.proofs.Contexts.{order-of, reached-of, linked-of, within-code}
 use Rattle.linked_group.proofs.Together.{entered-at-entry, members-are}
 use Rattle.decompiler.specs.Listing.{AreDefsOf, HasDefs, IsCodeIn, IsInstructionIn, IsMemberOf, IsUsedIn, UsesMemoryIn}
 use Rattle.decompiler.proofs.CodeListed.{access_back, access_there, byte_back, byte_there, memory_by, registers_by, used_back, used_there}
@@ -136,7 +136,7 @@ module _ (code : Bytes) (e : ℕ) (bytes : AreBytes code) (s : LinkedGroup) (are
   pub defs-listed : HaveDefs (members_of s) (defs_of (members_of s))
   defs-listed = record {
     rows = map row_of s.functions;
-    each = rows-each s.functions (λ f c. defs_are true f.function.now.graph (reached-of code e bytes s are is f c) f.function.now.forest (linked-of code e bytes s are is f c).forest (setting_of (setting_in s f)) (order-of code e bytes s are is f c));
+    each = rows-each s.functions (λ f c. defs_are true f.function.now.graph (reached-of code e bytes s are is f c) f.function.now.forest (linked-of code e bytes s are is f c).forest (context_of (context_in s f)) (order-of code e bytes s are is f c));
     all = rows-all s.functions;
   }
 

@@ -29,7 +29,7 @@ use Rattle.linked_group.specs.Groups.{IsLinkedGroup, functions_of, group_in, loa
 use Rattle.linked_group.specs.declared.group.LinkedFunction.{LinkedFunction}
 use Rattle.linked_group.specs.declared.group.LinkedGroup.{LinkedGroup}
 use Rattle.linked_group.proofs.Lists.{out-map}
-use Rattle.linked_group.proofs.Settings.{small-of, within-code}
+use Rattle.linked_group.proofs.Contexts.{small-of, within-code}
 use Rattle.linked_group.proofs.Together.{defs-few, defs-some, formed, members-are}
 use Rattle.path_walk.specs.declared.item.Item.{Item}
 use Rattle.path_walk.specs.Closed.{AreClosedIn}
@@ -99,7 +99,7 @@ module _ (file name : List ℕ) (e : ℕ) (bytes : AreBytes (code_of_file file))
   gains-linked =
       let all = members-are (code_of_file file) e bytes s are is name in
       members-gain true file bytes (members_of s) all.0 (group_in s name) all.2 InFirstMemory
-      (λ m n c lt. let r = out-map (member_in s) s.functions m c in subst (λ (z : Member). z.setting.uses (get_or z.graph.addrs n 0) ≡ 0) r.2 refl)
+      (λ m n c lt. let r = out-map (member_in s) s.functions m c in subst (λ (z : Member). z.context.uses (get_or z.graph.addrs n 0) ≡ 0) r.2 refl)
       (within-code (code_of_file file) e bytes s are is)
 
   pub printed-linked : IsName name → IsGroupIn version_3 (group_in s name)

@@ -34,7 +34,7 @@ accepted-headline F keeps known few file text (verdict.BadLine n) h is ps t = ab
 accepted-headline F keeps known few file text (verdict.NotProved g) h is ps t = absurd is
 accepted-headline F keeps known few file text verdict.NoMemory h is ps t = absurd is
 
--- a verdict is want of memory, or it isn't
+-- a verdict is `NoMemory`, or it isn't
 or-memory : (v : Verdict) → (v ≡ verdict.NoMemory) ⊎ (v ≡ verdict.NoMemory → ⊥)
 or-memory (verdict.Accepted functions lines) = inr (λ e. cc)
 or-memory (verdict.BadElf why) = inr (λ e. cc)

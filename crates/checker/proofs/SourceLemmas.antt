@@ -14,7 +14,7 @@ use Rattle.proof_text.specs.FirstProofs.{Progress}
 use Rattle.proof_text.specs.Pulling.{IfBad, is_fault}
 use Rattle.proof_text.specs.Sources.{BadGroupAt, Both, GivesGroup}
 use Rattle.proof_text.specs.inner.LineReaders.{LineReaders, ReadsLines}
-use Rattle.proof_text.specs.inner.PulledRows.{WhereHeld}
+use Rattle.proof_text.specs.inner.PulledRows.{IfFile}
 use Rattle.checker.specs.declared.verdict.Pulled.{Pulled}
 use Rattle.checker.specs.declared.verdict.Pulled.TheVariants as pulled
 use Rattle.checker.specs.declared.verdict.Verdict.{Verdict}
@@ -61,7 +61,7 @@ module _ (R : LineReaders) (o n : Option Progress) (number : ℕ) where
 
 -- ---- a text in a file
 
-pub verdict-held : (told : Option Contents) (name : List ℕ) (result : Pulled) (P : Verdict → List ℕ → Type 0) → WhereHeld told name (P (as_verdict result)) → IfVerdict result (λ v. WhereHeld told name (P v))
+pub verdict-held : (told : Option Contents) (name : List ℕ) (result : Pulled) (P : Verdict → List ℕ → Type 0) → IfFile told name (P (as_verdict result)) → IfVerdict result (λ v. IfFile told name (P v))
 verdict-held told name (pulled.Verdict v) P h = h
 verdict-held told name pulled.Fault P h = tt
 
@@ -87,14 +87,14 @@ some-all-of (Ok (Some y)) A a = a
 some-all-of (Ok None) A a = tt
 some-all-of (Err e) A a = tt
 
-pub held-so : (told : Option Contents) (name : List ℕ) (result : Pulled) (P Q : Verdict → List ℕ → Type 0) → ((v : Verdict) (file : List ℕ) → P v file → Q v file) → IfVerdict result (λ v. WhereHeld told name (P v)) → IfVerdict result (λ v. WhereHeld told name (Q v))
+pub held-so : (told : Option Contents) (name : List ℕ) (result : Pulled) (P Q : Verdict → List ℕ → Type 0) → ((v : Verdict) (file : List ℕ) → P v file → Q v file) → IfVerdict result (λ v. IfFile told name (P v)) → IfVerdict result (λ v. IfFile told name (Q v))
 held-so told name (pulled.Verdict v) P Q so h = by told h
   where
     in-name : (held : Option (List ℕ)) → IfSome held (P v) → IfSome held (Q v)
     in-name None h = tt
     in-name (Some file) h = so v file h
 
-    by : (told : Option Contents) → WhereHeld told name (P v) → WhereHeld told name (Q v)
+    by : (told : Option Contents) → IfFile told name (P v) → IfFile told name (Q v)
     by None h = tt
     by (Some files) h = in-name (files name) h
 held-so told name pulled.Fault P Q so h = tt

@@ -5,7 +5,7 @@ use Rattle.checker.specs.declared.verdict.Pulled.TheVariants as pulled
 use Rattle.checker.specs.declared.verdict.Verdict.{Verdict as VerdictOf}
 use Rattle.checker.specs.declared.verdict.Verdict.TheVariants as verdict
 
--- the verdict; a fault says as little of the text as want of memory
+-- the verdict; a fault says as little of the text as lack of memory
 abbrev pub as_verdict : Pulled → VerdictOf
 as_verdict (pulled.Verdict v) = v
 as_verdict pulled.Fault = verdict.NoMemory

@@ -25,7 +25,7 @@ ghost use Rattle.checker.specs.Pulled.{IfVerdict, as_verdict, is_outside};
 ghost use Rattle.mc_shelf.specs.inner.OnlyReads.{OnlyReads};
 ghost use Rattle.proof_text.specs.Pulling.{held_text, left_of, progress_in};
 ghost use Rattle.proof_text.specs.Sources.{Both};
-ghost use Rattle.proof_text.specs.inner.PulledRows.{WhereHeld};
+ghost use Rattle.proof_text.specs.inner.PulledRows.{IfFile};
 
 use crate::file_code::code_of_image;
 use crate::further_rule::{FurtherRule, NoRule};
@@ -62,7 +62,7 @@ pub fn check_bytes(alloc: Global, elf: &[u8], proof: &[u8]) -> Verdict
         → IsTextOf proof.now ps
         → Headline elf.now (groups_of ps) }
 
-    // A verdict that says what is so comes, but for want of memory.
+    // A verdict that says what is so comes, but for lack of memory.
     ensures exact { (v : VerdictOf)
         → Says elf.now proof.now v
         → (result ≡ v) ⊎ (v ≡ Verdict.NoMemory) ⊎ (result ≡ Verdict.NoMemory) }
@@ -94,7 +94,7 @@ pub fn check_by<R: FurtherRule>(
         → IsTextOfIn (version_of reader.old.version) reader.old.text ps
         → Headline elf.now (groups_of ps) }
 
-    // A verdict that says what is so comes, but for want of memory.
+    // A verdict that says what is so comes, but for lack of memory.
     ensures exact { (v : VerdictOf)
         → SaysBy R.states (version_of reader.old.version) elf.now reader.old.text v
         → (result ≡ v) ⊎ (v ≡ Verdict.NoMemory) ⊎ (result ≡ Verdict.NoMemory) }
@@ -145,7 +145,7 @@ pub fn check_image<R: FurtherRule>(
         → IsTextOfIn (version_of reader.old.version) reader.old.text ps
         → Headline elf (groups_of ps) }
 
-    // A verdict that says what is so comes, but for want of memory.
+    // A verdict that says what is so comes, but for lack of memory.
     ensures exact { (elf : Items ℕ)
         → IsReadable elf
         → image.now ≡ image_of elf
@@ -192,18 +192,18 @@ pub fn check_pulled_by<S: Shelf, R: FurtherRule>(
 
     // Where it is told what the name holds: what the verdict says of the files, that the functions
     // of a text that is accepted are right, in a version with one memory at most, and that a
-    // verdict that says what is so comes, but for want of memory.
+    // verdict that says what is so comes, but for lack of memory.
     ensures verdict { (elf : Items ℕ)
         → IsReadable elf
         → image.now ≡ image_of elf
-        → IfVerdict result (λ v. WhereHeld (S.contents shelf.old) pull.old.rows.lines.name
+        → IfVerdict result (λ v. IfFile (S.contents shelf.old) pull.old.rows.lines.name
         (λ file. SaysBy R.states (version_of pull.old.version) elf (held_text pull.old file) v)) }
     ensures headline { (elf : Items ℕ)
         → IsReadable elf
         → image.now ≡ image_of elf
         → (version_of pull.old.version).most_mems ≤ 1
         → IfVerdict result (λ v.
-        WhereHeld (S.contents shelf.old) pull.old.rows.lines.name (λ file.
+        IfFile (S.contents shelf.old) pull.old.rows.lines.name (λ file.
         IsAcceptance v
         → (ps : Items ProofTree)
         → IsTextOfIn (version_of pull.old.version) (held_text pull.old file) ps
@@ -212,7 +212,7 @@ pub fn check_pulled_by<S: Shelf, R: FurtherRule>(
         → IsReadable elf
         → image.now ≡ image_of elf
         → IfVerdict result (λ w.
-        WhereHeld (S.contents shelf.old) pull.old.rows.lines.name (λ file.
+        IfFile (S.contents shelf.old) pull.old.rows.lines.name (λ file.
         (v : VerdictOf)
         → SaysBy R.states (version_of pull.old.version) elf (held_text pull.old file) v
         → (w ≡ v) ⊎ (v ≡ Verdict.NoMemory) ⊎ (w ≡ Verdict.NoMemory))) }

@@ -7,7 +7,7 @@ use elf_image::ElfFault;
 pub enum Verdict {
     /// All is right: so many groups, each of which lists a function, with so many lines of proofs.
     Accepted { functions: u64, lines: u64 },
-    /// The ELF file can't be read. The fault is never want of memory.
+    /// The ELF file can't be read. The fault is never `NoMemory`.
     BadElf(ElfFault),
     /// The text's line of that number is missing, or no text of proofs goes on with it.
     BadText(u64),

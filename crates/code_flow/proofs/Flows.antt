@@ -22,7 +22,7 @@ use Rattle.flow_graph.proofs.VisitedLemmas.{few_from_distinct}
 use Rattle.flow_graph.proofs.Ways.{node_at}
 use Rattle.loop_forest.specs.Forest.{IsForestFault}
 use Rattle.loop_forest.specs.Cycles.{TwoEntries}
-use Rattle.loop_forest.proofs.AddressLemmas.{graph_settled, code_settled, entry_is}
+use Rattle.loop_forest.proofs.AddressLemmas.{graph_in_post_order, code_in_post_order, entry_is}
 use Rattle.loop_forest.proofs.FoundLemmas.{different_distinct}
 use Rattle.code_gen.specs.Pieces.{Pieces, drawn}
 use Rattle.code_gen.specs.Program.{code, instructions}
@@ -33,7 +33,7 @@ use Rattle.code_gen.proofs.ShapeLemmas.{drawn-shaped}
 use Rattle.code_gen.proofs.TargetLemmas.{each-split}
 use Rattle.code_flow.proofs.Edges.{Edge, edge-within}
 use Rattle.code_flow.proofs.Leads.{Ground, at, Leads, all-lead, looked, none-there}
-use Rattle.code_flow.proofs.Loops.{Laid, settled, few-exits}
+use Rattle.code_flow.proofs.Loops.{Laid, in_post_order, few-exits}
 
 -- the return
 abbrev return : Instr
@@ -194,7 +194,7 @@ no-fault number size bytes why small words fault =
 
 no-outside : (p : Pieces) (g : GraphOf) (place : ℕ → ℕ) → Laid p g place → (why : Outside) → IsForestFault g why → ⊥
 no-outside p g place l (Entries cycle first second) f =
-    graph_settled g (λ u. count 0 p - place u) l.flow (settled p g place l) (record { cycle = cycle; first = first; second = second; shows = f })
+    graph_in_post_order g (λ u. count 0 p - place u) l.flow (in_post_order p g place l) (record { cycle = cycle; first = first; second = second; shows = f })
 no-outside p g place l (ManyExits a) f = few-exits p g place l f.head f.many
 no-outside p g place l NoSuch f = f
 no-outside p g place l (Ambiguous a b) f = f
@@ -218,4 +218,4 @@ no-two-entries number size bytes g small words graph entries =
     let p : Pieces = (drawn size 0 number).pieces in
     let place : ℕ → ℕ = λ u. place_of_address (get_or g.addrs u 0) in
     let l : Laid p g place = laid bytes p (standing number size bytes small words) g graph in
-    code_settled false bytes start g (λ u. count 0 p - place u) graph (settled p g place l) entries
+    code_in_post_order false bytes start g (λ u. count 0 p - place u) graph (in_post_order p g place l) entries

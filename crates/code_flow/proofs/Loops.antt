@@ -5,7 +5,7 @@ use Rattle.std.proofs.lemmas.Bool.Decides.{leb_tells}
 use Rattle.flow_graph.specs.Graph.{GraphOf, HasEdge, IsFlow}
 use Rattle.flow_graph.specs.Walks.{Way, Stop, Leave}
 use Rattle.flow_graph.proofs.Ways.{node_at}
-use Rattle.loop_forest.specs.Loops.{IsBackEdge, InLoop, AtHead, Inside, IsExit, IsSettled}
+use Rattle.loop_forest.specs.Loops.{IsBackEdge, InLoop, AtHead, Inside, IsExit, IsPostOrder}
 use Rattle.loop_forest.specs.Regions.{HasManyExits, loop_exit_limit}
 use Rattle.loop_forest.proofs.BackEdgeLemmas.{back_iff}
 use Rattle.code_gen.specs.Pieces.{Pieces}
@@ -43,8 +43,8 @@ met p g place l u h below q (Leave {a = a} {c = c} {b = z} away d w) e out = eli
   ]
 ]
 
-pub settled : (p : Pieces) (g : GraphOf) (place : ℕ → ℕ) → Laid p g place → IsSettled (HasEdge g) g.entry (λ u. count 0 p - place u)
-settled p g place l = record {
+pub in_post_order : (p : Pieces) (g : GraphOf) (place : ℕ → ℕ) → Laid p g place → IsPostOrder (HasEdge g) g.entry (λ u. count 0 p - place u)
+in_post_order p g place l = record {
   edge = λ u v r d.
       let mu : place u ≤ count 0 p = l.most u (l.flow.source u v d) in
       let mv : place v ≤ count 0 p = l.most v (l.flow.within u v d) in
@@ -63,7 +63,7 @@ back-of p g place l u h b =
     let bu : u < length g.addrs = l.flow.source u h b.edge in
     let bh : h < length g.addrs = l.flow.within u h b.edge in
     let falls : count 0 p - place u ≤ count 0 p - place h =
-    (back_iff (HasEdge g) g.entry (λ x. count 0 p - place x) (settled p g place l) u h (l.flow.reached u bu) b.edge).0 b in
+    (back_iff (HasEdge g) g.entry (λ x. count 0 p - place x) (in_post_order p g place l) u h (l.flow.reached u bu) b.edge).0 b in
     elim (edge-forth 0 p 0 (place u) (place h) (l.edge u h b.edge)) [
       | inl t ↦ absurd (omega (arith, t, falls, l.most u bu, l.most h bh))
       | inr q ↦ q

@@ -32,7 +32,7 @@ use Rattle.loop_forest.specs.Forest.{ForestOf, IsForestOf}
 use Rattle.tailrec_lang.specs.Registers.{AreRegistersFrom}
 use Rattle.code_parts.specs.declared.callee.Callee.{Callee}
 use Rattle.code_parts.specs.Graph.{IsCallTo, IsCode, StandsAt, has_edge, is_jump_through}
-use Rattle.code_parts.specs.Flows.{HaveCode, IsSetFor, Setting, edge_number, flow_of, registers_of}
+use Rattle.code_parts.specs.Flows.{HaveCode, IsSetFor, Context, edge_number, flow_of, registers_of}
 use Rattle.code_parts.proofs.Lists.{in-true}
 use Rattle.code_parts.proofs.Registers.{filter-has, filter-rise, or_left, or_right}
 use Rattle.code_parts.proofs.FlowGraph.{any-at, edge-at}
@@ -207,7 +207,7 @@ long-enough w = by_test (is_word w)
 
 -- ---- nodes
 
-module _ (linked : Bool) (code : Bytes) (entry : ℕ) (g : GraphOf) (f : ForestOf) (s : Setting) (ranges : List Range)
+module _ (linked : Bool) (code : Bytes) (entry : ℕ) (g : GraphOf) (f : ForestOf) (s : Context) (ranges : List Range)
     (graph : IsGraphOf linked code entry g) (forest : IsForestOf g f) (bytes : AreBytes code) (have : HaveCode g code ranges) (fits : IsSetFor g s) where
   abbrev address : ℕ → ℕ
   address n = get_or g.addrs n 0

@@ -10,12 +10,12 @@ use Rattle.flow_graph.specs.Walks.{Way, Stop, Leave, AnyNode, Reaches}
 use Rattle.flow_graph.proofs.NumberLemmas.{number_within}
 use Rattle.flow_graph.proofs.Ways.{way-join, way-weaken}
 use Rattle.loop_forest.specs.Forest.{ForestOf, IsForestOf, number_of, place_of}
-use Rattle.loop_forest.specs.Loops.{IsSettled}
+use Rattle.loop_forest.specs.Loops.{IsPostOrder}
 use Rattle.code_parts.specs.declared.part.Part.{Part}
 use Rattle.code_parts.specs.declared.part.Part.TheVariants.{Loop, Rest}
 use Rattle.code_parts.specs.Bodies.{Flow, part_def}
 use Rattle.code_parts.specs.Graph.{IsPart}
-use Rattle.code_parts.specs.Flows.{Setting, flow_of, group_of, place_in}
+use Rattle.code_parts.specs.Flows.{Context, flow_of, group_of, place_in}
 use Rattle.code_parts.specs.Order.{AreParts, StandsBefore}
 use Rattle.code_parts.proofs.Lists.{length-map, slice-mapped}
 use Rattle.code_parts.proofs.FlowGraph.{flow, region-within, walks}
@@ -23,7 +23,7 @@ use Rattle.code_parts.proofs.FlowOrder.{le_or, part-at, there-at}
 
 -- ---- the entry is left last
 
-module _ (E : ℕ → ℕ → Type 0) (e : ℕ) (left : ℕ → ℕ) (settled : IsSettled E e left) where
+module _ (E : ℕ → ℕ → Type 0) (e : ℕ) (left : ℕ → ℕ) (in_post_order : IsPostOrder E e left) where
   -- the entry, or left before it
   abbrev Lower : ℕ → Type 0
   Lower n = (n ≡ e) ⊎ (left n < left e)
@@ -37,7 +37,7 @@ module _ (E : ℕ → ℕ → Type 0) (e : ℕ) (left : ℕ → ℕ) (settled : 
   ]
 
   on : (a c : ℕ) → Way E Lower e a → Lower a → E a c → Lower c
-  on a c w low d = elim (settled.edge a c (way-weaken (λ x h. tt) w) d) [
+  on a c w low d = elim (in_post_order.edge a c (way-weaken (λ x h. tt) w) d) [
     | inl less ↦ inr (below low less)
     | inr met ↦ elim (left_or_not c w) [ inl v ↦ subst Lower (met.met v) low | inr h ↦ h ]
   ]
@@ -66,7 +66,7 @@ place-within [] k x e = absurd (cc)
 place-within (y ∷ xs) zero x e = omega arith
 place-within (y ∷ xs) (suc k) x e = let lt = place-within xs k x e in omega (arith, lt)
 
-module _ (linked : Bool) (code : Bytes) (entry : ℕ) (g : GraphOf) (f : ForestOf) (s : Setting) (graph : IsGraphOf linked code entry g) (forest : IsForestOf g f)
+module _ (linked : Bool) (code : Bytes) (entry : ℕ) (g : GraphOf) (f : ForestOf) (s : Context) (graph : IsGraphOf linked code entry g) (forest : IsForestOf g f)
     (order : AreParts (flow_of g f s) (number_of f) s.parts) where
   abbrev the_flow : Flow
   the_flow = flow_of g f s
@@ -89,7 +89,7 @@ module _ (linked : Bool) (code : Bytes) (entry : ℕ) (g : GraphOf) (f : ForestO
       omega (arith, none, deep, same)
   none-after (Rest None n) there (inr h) =
       let more = h.1 in
-      by more (entry-last (HasEdge g) g.entry (number_of f) forest.settled n ((flow linked code entry g f s graph forest).reached n there.0))
+      by more (entry-last (HasEdge g) g.entry (number_of f) forest.in_post_order n ((flow linked code entry g f s graph forest).reached n there.0))
     where
       by : 2 * number_of f g.entry + 1 < 2 * number_of f n + 1 → (n ≡ g.entry) ⊎ (number_of f n < number_of f g.entry) → ⊥
       by more (inl same) = let equal = ap (number_of f) same in omega (arith, more, equal)

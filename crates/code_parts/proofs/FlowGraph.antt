@@ -22,7 +22,7 @@ use Rattle.loop_forest.proofs.WalkLaws.{walkable}
 use Rattle.code_parts.specs.Bodies.{Flow, index_of, rest_targets}
 use Rattle.code_parts.specs.declared.callee.Callee.{Callee}
 use Rattle.code_parts.specs.Graph.{IsEdge, IsGraph, IsPlaced, has_edge, is_jump_through}
-use Rattle.code_parts.specs.Flows.{Setting, edge_number, flow_of}
+use Rattle.code_parts.specs.Flows.{Context, edge_number, flow_of}
 use Rattle.code_parts.proofs.Lists.{contains-cases}
 
 -- ---- lists
@@ -109,7 +109,7 @@ no-target a k instr.Ebreak e = absurd (cc)
 not_zero : (n : ℕ) → eqb n 0 ≡ false → n ≢ 0
 not_zero n e = eqb-false n 0 e
 
-module _ (linked : Bool) (code : Bytes) (entry : ℕ) (g : GraphOf) (f : ForestOf) (s : Setting) (graph : IsGraphOf linked code entry g) (forest : IsForestOf g f) where
+module _ (linked : Bool) (code : Bytes) (entry : ℕ) (g : GraphOf) (f : ForestOf) (s : Context) (graph : IsGraphOf linked code entry g) (forest : IsForestOf g f) where
   abbrev the_flow : Flow
   the_flow = flow_of g f s
 

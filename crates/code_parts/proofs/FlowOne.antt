@@ -10,7 +10,7 @@ use Rattle.code_parts.specs.declared.part.Part.{Part}
 use Rattle.code_parts.specs.declared.part.Part.TheVariants.{Loop, Rest}
 use Rattle.code_parts.specs.Bodies.{own}
 use Rattle.code_parts.specs.Graph.{IsPart}
-use Rattle.code_parts.specs.Flows.{Setting, flow_of}
+use Rattle.code_parts.specs.Flows.{Context, flow_of}
 use Rattle.code_parts.specs.Order.{AreParts, StandsBefore, weight}
 use Rattle.code_parts.proofs.Lists.{contains-cases, here, later}
 use Rattle.code_parts.proofs.FlowGraph.{region-within, walks}
@@ -44,7 +44,7 @@ module _ (Before : Part → Part → Type 0) (never : (p : Part) → Before p p 
 
 -- ---- depths are determined
 
-module _ (linked : Bool) (code : Bytes) (entry : ℕ) (g : GraphOf) (f : ForestOf) (s t : Setting) (graph : IsGraphOf linked code entry g) (forest : IsForestOf g f)
+module _ (linked : Bool) (code : Bytes) (entry : ℕ) (g : GraphOf) (f : ForestOf) (s t : Context) (graph : IsGraphOf linked code entry g) (forest : IsForestOf g f)
     (one : AreParts (flow_of g f s) (number_of f) s.parts) (two : AreParts (flow_of g f t) (number_of f) t.parts) where
   abbrev IsNumbered : Option ℕ → Type 0
   IsNumbered r = (l : ℕ) → r ≡ Some l → l < length f.heads

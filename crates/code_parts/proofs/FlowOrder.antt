@@ -16,7 +16,7 @@ use Rattle.code_parts.specs.declared.part.Part.TheVariants.{Loop, Rest}
 use Rattle.code_parts.specs.Bodies.{size, Flow, VariableMap, Action, Straight, Fork, Return, Enter, return_arm, action, action_body, arms_over, body_at, current, end_at, end_of, first, fresh, index_of, last_at, own, part_body, rest_arms, rest_body, rest_from, rest_targets, start, with_pc}
 use Rattle.code_parts.specs.declared.callee.Callee.{Callee}
 use Rattle.code_parts.specs.Graph.{ArmsBelow, CallsBelow, IsPart, IsPlaced}
-use Rattle.code_parts.specs.Flows.{Setting, flow_of, place_in, same_part, same_region}
+use Rattle.code_parts.specs.Flows.{Context, flow_of, place_in, same_part, same_region}
 use Rattle.code_parts.specs.Order.{AreParts, StandsBefore, weight}
 use Rattle.code_parts.proofs.Lists.{contains-cases}
 use Rattle.code_parts.proofs.Edges.{Leads, calls-row, end-some, leads-calling}
@@ -186,7 +186,7 @@ module _ (d : ℕ) where
       inside (inl q) none = absurd (end-some f p n q.0 (current f v) q.1 none)
       inside (inr q) none = q
 
-module _ (linked : Bool) (code : Bytes) (entry : ℕ) (g : GraphOf) (f : ForestOf) (s : Setting) (graph : IsGraphOf linked code entry g) (forest : IsForestOf g f)
+module _ (linked : Bool) (code : Bytes) (entry : ℕ) (g : GraphOf) (f : ForestOf) (s : Context) (graph : IsGraphOf linked code entry g) (forest : IsForestOf g f)
     (order : AreParts (flow_of g f s) (number_of f) s.parts)
     (before : (n : ℕ) (c : Callee) → n < length g.addrs → (flow_of g f s).callee n ≡ Some c → c.def < s.base) where
   abbrev the_flow : Flow

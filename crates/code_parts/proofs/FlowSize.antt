@@ -25,7 +25,7 @@ use Rattle.code_parts.specs.declared.part.Part.TheVariants.{Loop, Rest}
 use Rattle.code_parts.specs.Bodies.{Flow}
 use Rattle.code_parts.specs.declared.callee.Callee.{Callee}
 use Rattle.code_parts.specs.Graph.{IsPart, IsSmall}
-use Rattle.code_parts.specs.Flows.{IsSetFor, Setting, alone, flow_of, unlinked}
+use Rattle.code_parts.specs.Flows.{IsSetFor, Context, alone, flow_of, unlinked}
 use Rattle.code_parts.specs.Order.{AreParts}
 use Rattle.code_parts.proofs.Lists.{contains-cases, here, later, length-map, rising-short, slice-mapped, slice-there}
 use Rattle.code_parts.proofs.FlowGraph.{flow, walks}
@@ -109,7 +109,7 @@ all-below [] b some each n = some
 all-below (x ∷ xs) b some each zero = each 0 (omega arith)
 all-below (x ∷ xs) b some each (suc n) = all-below xs b some (λ k lt. each (suc k) (omega (arith, lt))) n
 
-module _ (linked : Bool) (code : Bytes) (entry : ℕ) (g : GraphOf) (f : ForestOf) (s : Setting) (graph : IsGraphOf linked code entry g) (forest : IsForestOf g f)
+module _ (linked : Bool) (code : Bytes) (entry : ℕ) (g : GraphOf) (f : ForestOf) (s : Context) (graph : IsGraphOf linked code entry g) (forest : IsForestOf g f)
     (order : AreParts (flow_of g f s) (number_of f) s.parts) where
   -- heads are nodes, and differ
   heads-few : length f.heads ≤ length g.addrs

@@ -19,5 +19,5 @@ pub mod Members
 pub mod VariableMaps
 pub mod PartOrder
 pub mod Registers
-pub mod Settings
+pub mod Contexts
 pub mod WellFormed

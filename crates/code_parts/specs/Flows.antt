@@ -55,7 +55,7 @@ registers_of instrs = registers_where (λ r. list_any (λ i. is_own i r) instrs)
 
 -- what a flow has beside its graph: how many definitions stand before its own, and its parts in their order; the group's registers and
 -- memories; the memory of each access, by its address; and the functions, by their addresses
-pub record Setting : Type 0 where
+pub record Context : Type 0 where
   pub base : ℕ
   pub parts : List Part
   pub regs : List ℕ
@@ -68,7 +68,7 @@ abbrev pub unlinked : ℕ → Callee
 unlinked a = record { entry = a; def = 0; returns = false }
 
 -- what a function alone has: its own definitions, its registers, and one memory if it has an access
-abbrev pub alone : GraphOf → List Part → Setting
+abbrev pub alone : GraphOf → List Part → Context
 alone g parts = record {
   base = 0;
   parts = parts;
@@ -83,8 +83,8 @@ abbrev pub function_at : List Callee → ℕ → Callee
 function_at [] a = unlinked a
 function_at (c ∷ cs) a = if c.entry == a then c else function_at cs a
 
--- a setting as the code has it: the accesses at the addresses of `second` use the second memory, and any other the first
-pub record SettingOf : Type 0 where
+-- a context as the code has it: the accesses at the addresses of `second` use the second memory, and any other the first
+pub record ContextOf : Type 0 where
   pub base : ℕ
   pub parts : List Part
   pub regs : List ℕ
@@ -92,8 +92,8 @@ pub record SettingOf : Type 0 where
   pub second : List ℕ
   pub functions : List Callee
 
-abbrev pub setting_of : SettingOf → Setting
-setting_of s = record {
+abbrev pub context_of : ContextOf → Context
+context_of s = record {
   base = s.base;
   parts = s.parts;
   regs = s.regs;
@@ -103,7 +103,7 @@ setting_of s = record {
 }
 
 -- The nodes and loops have the numbers that they have in the graph and in the forest, and a part that of its place in the list of parts.
-abbrev pub flow_of : GraphOf → ForestOf → Setting → Flow
+abbrev pub flow_of : GraphOf → ForestOf → Context → Flow
 flow_of g f s = record {
   nodes = length g.addrs;
   loops = length f.heads;
@@ -138,7 +138,7 @@ HaveCode g code ranges = (n k b : ℕ) → n < length g.addrs → k < length_of 
 
 -- The registers rise, and those of the instructions are among them; the memory of each access is one of the group's; and functions stand under
 -- their addresses.
-pub record IsSetFor (g : GraphOf) (s : Setting) : Type 0 where
+pub record IsSetFor (g : GraphOf) (s : Context) : Type 0 where
   pub rise : AreRegistersFrom 1 s.regs
   pub regs : (r : ℕ) → Contains (registers_of g.instrs) r → Contains s.regs r
   pub uses : (n : ℕ) → n < length g.addrs → has_memory (slice_index_or g.instrs n Ebreak) ≡ true → s.uses (slice_index g.addrs n) < s.mems

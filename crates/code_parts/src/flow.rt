@@ -6,7 +6,7 @@ ghost use Rattle.std.specs.List.{All, list_any};
 ghost use Rattle.loop_forest.specs.Forest.{IsForestOf};
 ghost use Rattle.code_parts.specs.Bodies.{size};
 ghost use Rattle.code_parts.specs.Graph.{IsAlone, IsCode, IsGraph, IsPart, StandsAt, has_edge};
-ghost use Rattle.code_parts.specs.Flows.{AreCodeOf, HaveInstructions, IsReached, IsSetFor, alone, function_at as the_function, place_in, same_part, setting_of};
+ghost use Rattle.code_parts.specs.Flows.{AreCodeOf, HaveInstructions, IsReached, IsSetFor, alone, function_at as the_function, place_in, same_part, context_of};
 ghost use Rattle.code_parts.specs.Regions.{IsOfRegion, IsRegion};
 ghost use Rattle.code_parts.specs.Kept.{IsReachedBy, flow_in};
 ghost use Rattle.triple_kernel.specs.declared.form.Form.TheVariants.{Next};
@@ -15,7 +15,7 @@ ghost use Rattle.rv_decode.specs.Registers.{destination};
 use crate::callee::Callee;
 use crate::code::code_of;
 use crate::part::Part;
-use crate::setting::Setting;
+use crate::context::Context;
 use crate::uses::{registers, returns, uses_memory};
 use flow_graph::{Edges, Graph, called_by};
 use instr_axioms::Form;
@@ -47,7 +47,7 @@ impl<'a> Model for Flow<'a> {
 
     ghost Value = { FlowOf };
 
-    ghost view = { λ s. record { graph = s.graph.now; forest = s.forest.now; setting = record { base = s.base; parts = s.parts.now; regs = s.regs; mems = s.mems; second = s.second.now; functions = s.functions.now }; code = s.code.ranges } };
+    ghost view = { λ s. record { graph = s.graph.now; forest = s.forest.now; context = record { base = s.base; parts = s.parts.now; regs = s.regs; mems = s.mems; second = s.second.now; functions = s.functions.now }; code = s.code.ranges } };
 
     ghost invariant = { λ s. IsKept s.graph.now s.forest.now (record { base = s.base; parts = s.parts.now; regs = s.regs; mems = s.mems; second = s.second.now; functions = s.functions.now }) s.returns s.code.ranges };
 }
@@ -65,8 +65,8 @@ impl<'a> Flow<'a> {
         requires few { length parts.now < 2 ^ 32 }
         ensures graph { IfOk result (λ s. s.graph ≡ graph.now) }
         ensures forest { IfOk result (λ s. s.forest ≡ forest.now) }
-        ensures parts { IfOk result (λ s. s.setting.parts ≡ parts.now) }
-        ensures setting { IfOk result (λ s. setting_of s.setting ≡ alone graph.now parts.now) }
+        ensures parts { IfOk result (λ s. s.context.parts ≡ parts.now) }
+        ensures context { IfOk result (λ s. context_of s.context ≡ alone graph.now parts.now) }
         ensures alone { IfOk result (λ s. IsAlone (flow_in s)) }
         ensures code { IfOk result (λ s. AreCodeOf graph.now s.code) }
     {
@@ -86,36 +86,36 @@ impl<'a> Flow<'a> {
         })
     }
 
-    /// The flow of a function in a setting, and in this code.
+    /// The flow of a function in a context, and in this code.
     pub fn of(
         alloc: Global,
         graph: &'a Graph,
         forest: &'a Forest,
-        setting: &Setting<'a>,
+        context: &Context<'a>,
         code: &Code,
     ) -> Result<Flow<'a>, NoMemory>
         requires reached { IsReachedBy graph.now }
         requires forest { IsForestOf graph.now forest.now }
-        requires fits { IsSetFor graph.now (setting_of setting.now) }
-        requires few { setting.now.base + length setting.now.parts < 2 ^ 32 }
-        requires mems { setting.now.mems ≤ 2 }
+        requires fits { IsSetFor graph.now (context_of context.now) }
+        requires few { context.now.base + length context.now.parts < 2 ^ 32 }
+        requires mems { context.now.mems ≤ 2 }
         requires code { HaveInstructions graph.now code.now.ranges }
         ensures graph { IfOk result (λ s. s.graph ≡ graph.now) }
         ensures forest { IfOk result (λ s. s.forest ≡ forest.now) }
-        ensures setting { IfOk result (λ s. s.setting ≡ setting.now) }
+        ensures context { IfOk result (λ s. s.context ≡ context.now) }
         ensures code { IfOk result (λ s. s.code ≡ code.now.ranges) }
     {
-        let regs = List::from_slice(alloc, setting.regs)?;
+        let regs = List::from_slice(alloc, context.regs)?;
         let code = copy_code(alloc, code)?;
         Ok(Flow {
             graph,
             forest,
-            base: setting.base,
-            parts: setting.parts,
+            base: context.base,
+            parts: context.parts,
             regs,
-            mems: setting.mems,
-            second: setting.second,
-            functions: setting.functions,
+            mems: context.mems,
+            second: context.second,
+            functions: context.functions,
             returns: returns(graph),
             code,
         })

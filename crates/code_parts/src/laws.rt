@@ -11,7 +11,7 @@ ghost use Rattle.loop_forest.specs.Forest.{ForestOf, IsForestOf, number_of};
 ghost use Rattle.code_parts.specs.declared.part.Part.{Part as ThePart};
 ghost use Rattle.code_parts.specs.Bodies.{Flow};
 ghost use Rattle.code_parts.specs.Graph.{IsCode, IsGraph, IsMade, IsSmall};
-ghost use Rattle.code_parts.specs.Flows.{HaveCode, IsSetFor, Setting, alone, flow_of, group_of};
+ghost use Rattle.code_parts.specs.Flows.{HaveCode, IsSetFor, Context, alone, flow_of, group_of};
 ghost use Rattle.code_parts.specs.Order.{AreParts};
 
 /// A group of all parts is well-formed: each variable is in scope, each call goes to an earlier
@@ -82,14 +82,14 @@ pub fn law_of_entries()
         (listed_def (group_of (flow_of g f (alone g parts)) name ranges parts))) ≡ Some e }
 {}
 
-/// Code of linked functions, in any setting that fits it, is what bodies of parts rest on too.
-pub fn law_of_settings()
+/// Code of linked functions, in any context that fits it, is what bodies of parts rest on too.
+pub fn law_of_contexts()
     ensures graph { (linked : Bool) (code : Bytes) (e : ℕ) (g : GraphOf) (f : ForestOf)
-        (s : Setting)
+        (s : Context)
         → IsGraphOf linked code e g
         → IsForestOf g f
         → IsGraph (flow_of g f s) }
-    ensures code { (linked : Bool) (code : Bytes) (e : ℕ) (g : GraphOf) (f : ForestOf) (s : Setting)
+    ensures code { (linked : Bool) (code : Bytes) (e : ℕ) (g : GraphOf) (f : ForestOf) (s : Context)
         (ranges : List TheRange)
         → IsGraphOf linked code e g
         → IsForestOf g f

@@ -13,7 +13,7 @@ use Rattle.flow_graph.proofs.InstructionLemmas.{graph_stands}
 use Rattle.loop_forest.specs.Forest.{ForestOf, IsForestOf, number_of}
 use Rattle.code_parts.specs.declared.part.Part.{Part}
 use Rattle.code_parts.specs.Bodies.{Flow, part_def}
-use Rattle.code_parts.specs.Flows.{Setting, flow_of}
+use Rattle.code_parts.specs.Flows.{Context, flow_of}
 use Rattle.code_parts.specs.Members.{Member, callee_at}
 use Rattle.code_parts.specs.Order.{AreParts}
 use Rattle.code_parts.proofs.FlowMade.{uncalled-of}
@@ -32,13 +32,13 @@ uncalled code e g graph n node =
     let stands = graph_stands false code e g n (get_or g.instrs n Ebreak) graph node (slice_get-get_or g.instrs n Ebreak (omega (arith, node, long))) in
     uncalled-of (get_or g.addrs n 0) (get_or g.instrs n Ebreak) stands.fine
 
-pub defs_alone : (Uses : ℕ → ℕ → Type 0) (code : Bytes) (e : ℕ) (g : GraphOf) (f : ForestOf) (s : Setting) (group : GroupTree) → IsGraphOf false code e g → IsForestOf g f
+pub defs_alone : (Uses : ℕ → ℕ → Type 0) (code : Bytes) (e : ℕ) (g : GraphOf) (f : ForestOf) (s : Context) (group : GroupTree) → IsGraphOf false code e g → IsForestOf g f
     → AreParts (flow_of g f s) (number_of f) s.parts → s.base ≡ 0 → s.regs ≡ group.regs → s.mems ≡ group.mems → ((n : ℕ) → n < length g.addrs → Uses (get_or g.addrs n 0) (s.uses (get_or g.addrs n 0)))
     → group.defs ≡ map (part_def (flow_of g f s)) s.parts → AreDefsAlone Uses code e g group
 defs_alone Uses code e g f s group graph forest order base regs mems uses defs = (f, s, all)
   where
     own : Member
-    own = record { at = e; graph = g; forest = f; setting = s }
+    own = record { at = e; graph = g; forest = f; context = s }
 
     only : (m : Member) → Contains (own ∷ []) m → own ≡ m
     only m (zero, lt, at) = at
@@ -52,6 +52,6 @@ defs_alone Uses code e g f s group graph forest order base regs mems uses defs =
       each = λ m c. subst (IsMemberOf false Uses code group) (only m c) member;
       based = (base, tt);
       called = λ m n t c. subst (λ (m : Member). n < length m.graph.addrs → called_by (get_or m.graph.addrs n 0) (get_or m.graph.instrs n Ebreak) ≡ Some t
-          → (y : Member) × Contains (own ∷ []) y × (y.at ≡ t) × (m.setting.functions t ≡ callee_at y)) (only m c) (λ node calls. absurd (let none = sym (uncalled code e g graph n node) ∙ calls in cc));
+          → (y : Member) × Contains (own ∷ []) y × (y.at ≡ t) × (m.context.functions t ≡ callee_at y)) (only m c) (λ node calls. absurd (let none = sym (uncalled code e g graph n node) ∙ calls in cc));
       defs = defs ∙ sym (append_none (map (part_def (flow_of g f s)) s.parts));
     }

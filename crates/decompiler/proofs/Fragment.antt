@@ -14,7 +14,7 @@ use Rattle.flow_graph.proofs.GraphLaws.{one_graph}
 use Rattle.loop_forest.specs.Forest.{ForestOf, IsForestOf, IsForestFault, IsMany, IsNoForest, number_of}
 use Rattle.loop_forest.specs.Cycles.{TwoEntries as HasTwo}
 use Rattle.flow_graph.specs.Flow.{Next}
-use Rattle.loop_forest.proofs.AddressLemmas.{code_settled, shows_code}
+use Rattle.loop_forest.proofs.AddressLemmas.{code_in_post_order, shows_code}
 use Rattle.loop_forest.proofs.OneForest.{no_many}
 use Rattle.decompiler.specs.Names.{StandsFor}
 use Rattle.decompiler.specs.Faults.{IsFirst, IsInFragment, Missing, Doubled, InCode, InCycle, InLoop}
@@ -63,7 +63,7 @@ in_fragment file name e g f s graph forest why (InCode {e = d} t fault) =
     graph_or_fault false (code_of_file file) e g why graph (subst (λ (x : ℕ). IsFault false (code_of_file file) x why) same fault)
 in_fragment file name e g f s graph forest why (InCycle {e = d} {cycle = c} {first = x} {second = y} h t other shows) =
     let same : d ≡ e = found d e (Ok d) (Ok e) refl refl (stands_once file name (Ok d) (Ok e) t s) in
-    code_settled false (code_of_file file) e g (number_of f) graph forest.settled
+    code_in_post_order false (code_of_file file) e g (number_of f) graph forest.in_post_order
     (subst (λ (z : ℕ). HasTwo (Next false (code_of_file file)) z) same (record { cycle = c; first = x; second = y; shows = shows }))
 in_fragment file name e g f s graph forest why (InLoop {e = d} {a = a} h t other many) =
     let same : d ≡ e = found d e (Ok d) (Ok e) refl refl (stands_once file name (Ok d) (Ok e) t s) in

@@ -12,7 +12,7 @@ use Rattle.loop_forest.specs.Forest.{ForestOf, IsForestOf, exits_of, head_of, nu
 use Rattle.code_parts.specs.declared.part.Part.{Part}
 use Rattle.code_parts.specs.declared.part.Part.TheVariants.{Loop, Rest}
 use Rattle.code_parts.specs.Bodies.{Flow, part_def}
-use Rattle.code_parts.specs.Flows.{Setting, flow_of, place_in}
+use Rattle.code_parts.specs.Flows.{Context, flow_of, place_in}
 use Rattle.code_parts.specs.Flows as flows
 use Rattle.code_parts.specs.Graph.{IsPart}
 use Rattle.code_parts.specs.Order.{AreParts}
@@ -54,7 +54,7 @@ same_cut q r n m e = cc
 never : {P : Type 0} (h n : ℕ) (r : Option ℕ) → LoopOf h ≡ RestFrom r n → P
 never h n r e = absurd (cc)
 
-module _ (linked : Bool) (g : GraphOf) (reached : flows.IsReached linked g) (f : ForestOf) (forest : IsForestOf g f) (s : Setting) (order : AreParts (flow_of g f s) (number_of f) s.parts) where
+module _ (linked : Bool) (g : GraphOf) (reached : flows.IsReached linked g) (f : ForestOf) (forest : IsForestOf g f) (s : Context) (order : AreParts (flow_of g f s) (number_of f) s.parts) where
   abbrev the_flow : Flow
   the_flow = flow_of g f s
 

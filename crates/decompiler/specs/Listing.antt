@@ -27,7 +27,7 @@ use Rattle.loop_forest.specs.Regions.{IsAround}
 use Rattle.loop_forest.specs.Cuts.{IsCut}
 use Rattle.loop_forest.specs.Forest.{ForestOf, IsForestOf, incoming}
 use Rattle.code_parts.specs.declared.part.Part.{Part}
-use Rattle.code_parts.specs.Flows.{Setting}
+use Rattle.code_parts.specs.Flows.{Context}
 use Rattle.code_parts.specs.Graph.{IsPart}
 use Rattle.code_parts.specs.Members.{AreBased, Member, callee_at, defs_of, flow_at}
 use Rattle.path_walk.specs.declared.item.Item.{Item}
@@ -135,11 +135,11 @@ pub record HasDefs (g : GraphOf) (defs : List DefTree) : Type 0 where
 pub record IsMemberOf (linked : Bool) (Uses : ℕ → ℕ → Type 0) (code : Bytes) (g : GroupTree) (m : Member) : Type 0 where
   pub graph : IsGraphOf linked code m.at m.graph
   pub forest : IsForestOf m.graph m.forest
-  pub parts : (p : Part) → Contains m.setting.parts p ↔ IsPart (flow_at m) p
-  pub once : (j k : ℕ) (p : Part) → slice_get m.setting.parts j ≡ Some p → slice_get m.setting.parts k ≡ Some p → j ≡ k
-  pub regs : m.setting.regs ≡ g.regs
-  pub mems : m.setting.mems ≡ g.mems
-  pub uses : (n : ℕ) → n < length m.graph.addrs → Uses (slice_index m.graph.addrs n) (m.setting.uses (slice_index m.graph.addrs n))
+  pub parts : (p : Part) → Contains m.context.parts p ↔ IsPart (flow_at m) p
+  pub once : (j k : ℕ) (p : Part) → slice_get m.context.parts j ≡ Some p → slice_get m.context.parts k ≡ Some p → j ≡ k
+  pub regs : m.context.regs ≡ g.regs
+  pub mems : m.context.mems ≡ g.mems
+  pub uses : (n : ℕ) → n < length m.graph.addrs → Uses (slice_index m.graph.addrs n) (m.context.uses (slice_index m.graph.addrs n))
 
 -- The group has the definition of each part of these functions, those of one function behind those of another. What is called is one of the
 -- functions, by the definition of the rest from its entry on.
@@ -147,12 +147,12 @@ pub record AreDefsOf (linked : Bool) (Uses : ℕ → ℕ → Type 0) (code : Byt
   pub each : (m : Member) → Contains ms m → IsMemberOf linked Uses code g m
   pub based : AreBased 0 ms
   pub called : (m : Member) (n t : ℕ) → Contains ms m → n < length m.graph.addrs → called_by (slice_index m.graph.addrs n) (slice_index_or m.graph.instrs n Ebreak) ≡ Some t
-      → (y : Member) × Contains ms y × (y.at ≡ t) × (m.setting.functions t ≡ callee_at y)
+      → (y : Member) × Contains ms y × (y.at ≡ t) × (m.context.functions t ≡ callee_at y)
   pub defs : g.defs ≡ defs_of ms
 
 -- .. of a function alone, with that graph
 abbrev pub AreDefsAlone : (ℕ → ℕ → Type 0) → Bytes → ℕ → GraphOf → GroupTree → Type 0
-AreDefsAlone Uses code e graph g = (f : ForestOf) × (s : Setting) × AreDefsOf false Uses code (record { at = e; graph = graph; forest = f; setting = s } ∷ []) g
+AreDefsAlone Uses code e graph g = (f : ForestOf) × (s : Context) × AreDefsOf false Uses code (record { at = e; graph = graph; forest = f; context = s } ∷ []) g
 
 -- ---- what is listed
 

@@ -28,7 +28,7 @@ pub enum CertFault {
 
 /// Whether the steps rewrite the group's definitions to the stated ones. The time is that of
 /// reading both and the certificate, and for each step that of copying the term that it rewrites.
-/// The fault of a step whose number is 2^32 or more is told as want of memory.
+/// The fault of a step whose number is 2^32 or more is answered as out of memory.
 #[tactic(auto, using(crate::proofs::StepLemmas::cert_accepted, crate::proofs::StepLemmas::cert_refused))]
 pub fn judge_cert(alloc: Global, g: &Group, c: &Cert) -> Result<(), CertFault>
     ensures ok { IfOk result (λ _. IsCertOf (group_tree g.now) c.now) }

@@ -37,7 +37,7 @@ fn next_term(log: &mut Log) -> Result<(), NoMemory>
 }
 
 /// The next number of a definition. A group with 2^32 definitions has no certificate, which is told
-/// as want of memory.
+/// as out of memory.
 fn next_def(def: u32) -> Result<u32, NoMemory>
     ensures { IfOk result (λ next. next ≡ def + 1) }
 {

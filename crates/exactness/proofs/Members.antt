@@ -55,25 +55,25 @@ uncalled : (h : ℕ → Callee) (a : ℕ) (i : Instr) (offset : ℤ) → option_
 uncalled h a i offset none same = let z : Some (h (target a offset)) ≡ None = (λ j. option_map h (called_by a (sym same j))) ∙ none in cc
 
 module _ (linked : Bool) (file : List ℕ) (bytes : AreBytes (code_of_file file)) (ms : List Member) (main : Member) (g : GroupTree) (are : AreMembers linked (code_of_file file) ms main g)
-    (Uses : ℕ → ℕ → Type 0) (uses : (m : Member) (n : ℕ) → Contains ms m → n < length m.graph.addrs → Uses (get_or m.graph.addrs n 0) (m.setting.uses (get_or m.graph.addrs n 0))) where
+    (Uses : ℕ → ℕ → Type 0) (uses : (m : Member) (n : ℕ) → Contains ms m → n < length m.graph.addrs → Uses (get_or m.graph.addrs n 0) (m.context.uses (get_or m.graph.addrs n 0))) where
   -- by members, all that is asked of functions
   module _ (m : Member) (in_ms : Contains ms m) where
     is : IsMember linked (code_of_file file) g.code m
     is = are.each m in_ms
 
     code-is : IsCode (flow_at m) g.code
-    code-is = is-code linked (code_of_file file) m.at m.graph m.forest m.setting g.code is.graph is.forest bytes is.bytes is.fits
+    code-is = is-code linked (code_of_file file) m.at m.graph m.forest m.context g.code is.graph is.forest bytes is.bytes is.fits
 
     entry-is : get_or m.graph.addrs m.graph.entry 0 ≡ m.at
     entry-is = ap (λ n. get_or m.graph.addrs n 0) is.graph.entry ∙ (number_within m.graph.addrs m.at (is.graph.reach.all m.at Stop)).1
 
     whole : IsPart (flow_at m) (Rest None m.graph.entry)
-    whole = whole-is linked (code_of_file file) m.at m.graph m.forest m.setting is.graph is.forest is.order
+    whole = whole-is linked (code_of_file file) m.at m.graph m.forest m.context is.graph is.forest is.order
 
     defs-are : (p : Part) → IsPart (flow_at m) p → slice_get g.defs ((flow_at m).number p) ≡ Some (part_def (flow_at m) p)
-    defs-are p there = are.defs m (place_in m.setting.parts p) p in_ms (there-at (flow_at m) (number_of m.forest) m.setting.parts is.order p there)
+    defs-are p there = are.defs m (place_in m.context.parts p) p in_ms (there-at (flow_at m) (number_of m.forest) m.context.parts is.order p there)
 
-  is_of : (m y : Member) (t : ℕ) (c : Callee) → Contains ms m → Contains ms y → m.setting.functions t ≡ callee_at y → m.setting.functions t ≡ c → IsOf (function_at y) c
+  is_of : (m y : Member) (t : ℕ) (c : Callee) → Contains ms m → Contains ms y → m.context.functions t ≡ callee_at y → m.context.functions t ≡ c → IsOf (function_at y) c
   is_of m y t c in_m in_y same called =
       let all : callee_at y ≡ c = sym same ∙ called in record {
         entry = ap (λ (k : Callee). k.entry) (sym all) ∙ sym (entry-is y in_y);
@@ -97,21 +97,21 @@ module _ (linked : Bool) (file : List ℕ) (bytes : AreBytes (code_of_file file)
     whole = by (λ x. IsPart x.flow (Rest None x.entry)) whole;
     called = λ x n c in_fs. by (λ x. n < x.flow.nodes → x.flow.callee n ≡ Some c → (y : Function) × Contains (map function_at ms) y × IsOf y c)
         (λ m in_m lt e.
-        let r = mapped m.setting.functions (called_by (get_or m.graph.addrs n 0) (get_or m.graph.instrs n instr.Ebreak)) c e in
+        let r = mapped m.context.functions (called_by (get_or m.graph.addrs n 0) (get_or m.graph.instrs n instr.Ebreak)) c e in
         let y = are.called m n r.0 in_m lt r.1 in
         (function_at y.0, in-map function_at ms y.0 y.1, is_of m y.0 r.0 c in_m y.1 y.2 r.2)) x in_fs;
     last = (let e = are.last in
-        let one = last-is linked (code_of_file file) main.at main.graph main.forest main.setting (are.each main are.listed).graph (are.each main are.listed).forest (are.each main are.listed).order in
+        let one = last-is linked (code_of_file file) main.at main.graph main.forest main.context (are.each main are.listed).graph (are.each main are.listed).forest (are.each main are.listed).order in
         omega (arith, e, one));
   }
 
   pub have-code : HaveGraphs Uses (map function_at ms) g
   have-code = record {
-    graph = by (λ x. IsGraph x.flow) (λ m c. is-graph linked (code_of_file file) m.at m.graph m.forest m.setting (are.each m c).graph (are.each m c).forest);
+    graph = by (λ x. IsGraph x.flow) (λ m c. is-graph linked (code_of_file file) m.at m.graph m.forest m.context (are.each m c).graph (are.each m c).forest);
     code = by (λ x. IsCode x.flow g.code) code-is;
     uses = λ x n c. by (λ x. n < x.flow.nodes → Uses (x.flow.addr n) (x.flow.uses n)) (λ m c lt. uses m n c lt) x c;
     no_call = λ x n offset c. by (λ x. n < x.flow.nodes → x.flow.callee n ≡ None → x.flow.instr n ≡ instr.Jal 1 offset → ⊥)
-        (λ m c lt none same. uncalled m.setting.functions (get_or m.graph.addrs n 0) (get_or m.graph.instrs n instr.Ebreak) offset none same) x c;
+        (λ m c lt none same. uncalled m.context.functions (get_or m.graph.addrs n 0) (get_or m.graph.instrs n instr.Ebreak) offset none same) x c;
   }
 
   -- nothing is lost of functions that call each other, and steps are counted
@@ -120,19 +120,19 @@ module _ (linked : Bool) (file : List ℕ) (bytes : AreBytes (code_of_file file)
 
 -- .. of a function by itself
 pub member-gains : (file : List ℕ) → AreBytes (code_of_file file) → (m : Member) (g : GroupTree) → AreMembers false (code_of_file file) (m ∷ []) m g → (Uses : ℕ → ℕ → Type 0)
-    → ((n : ℕ) → n < length m.graph.addrs → Uses (get_or m.graph.addrs n 0) (m.setting.uses (get_or m.graph.addrs n 0))) → IsWithin (range_bytes g.code) (code_of_file file) → Returning (FirstReturnsIn Uses) file g
+    → ((n : ℕ) → n < length m.graph.addrs → Uses (get_or m.graph.addrs n 0) (m.context.uses (get_or m.graph.addrs n 0))) → IsWithin (range_bytes g.code) (code_of_file file) → Returning (FirstReturnsIn Uses) file g
 member-gains file bytes m g are Uses uses in_file =
     own-gains file g (function_at m) (has-functions false file bytes (m ∷ []) m g are Uses uses_of) Uses (have-code false file bytes (m ∷ []) m g are Uses uses_of) in_file
     (λ n lt. let own = are.each m are.listed in
-    ap (option_map m.setting.functions) (uncalled-of (get_or m.graph.addrs n 0) (get_or m.graph.instrs n instr.Ebreak)
-    (stands false (code_of_file file) m.at m.graph m.forest m.setting g.code own.graph own.forest bytes own.bytes own.fits n lt).fine))
+    ap (option_map m.context.functions) (uncalled-of (get_or m.graph.addrs n 0) (get_or m.graph.instrs n instr.Ebreak)
+    (stands false (code_of_file file) m.at m.graph m.forest m.context g.code own.graph own.forest bytes own.bytes own.fits n lt).fine))
   where
     only : (x : Member) → Contains (m ∷ []) x → m ≡ x
     only x (zero, l, e) = e
     only x (suc k, l, e) = absurd (omega (arith, l))
 
-    uses_of : (x : Member) (n : ℕ) → Contains (m ∷ []) x → n < length x.graph.addrs → Uses (get_or x.graph.addrs n 0) (x.setting.uses (get_or x.graph.addrs n 0))
-    uses_of x n c = subst (λ (x : Member). n < length x.graph.addrs → Uses (get_or x.graph.addrs n 0) (x.setting.uses (get_or x.graph.addrs n 0))) (only x c) (λ lt. uses n lt)
+    uses_of : (x : Member) (n : ℕ) → Contains (m ∷ []) x → n < length x.graph.addrs → Uses (get_or x.graph.addrs n 0) (x.context.uses (get_or x.graph.addrs n 0))
+    uses_of x n c = subst (λ (x : Member). n < length x.graph.addrs → Uses (get_or x.graph.addrs n 0) (x.context.uses (get_or x.graph.addrs n 0))) (only x c) (λ lt. uses n lt)
 
 -- .. by the memories that they use
 pub gain-linked : (file : List ℕ) (ms : List Member) (main : Member) (g : GroupTree) → AreBytes (code_of_file file) → AreMembers true (code_of_file file) ms main g → IsWithin (range_bytes g.code) (code_of_file file)

@@ -5,4 +5,4 @@ use Rattle.code_parts.specs.Members.{Member}
 
 -- in one of these functions the instruction at the address a has that memory
 abbrev pub UsedBy : List Member → ℕ → ℕ → Type 0
-UsedBy ms a q = (m : Member) × Contains ms m × Contains m.graph.addrs a × (m.setting.uses a ≡ q)
+UsedBy ms a q = (m : Member) × Contains ms m × Contains m.graph.addrs a × (m.context.uses a ≡ q)

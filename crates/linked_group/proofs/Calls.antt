@@ -15,7 +15,7 @@ use Rattle.code_parts.specs.Members.{AreBased, CallsBefore, Member, callee_at, f
 use Rattle.code_parts.proofs.AnyOf.{slice-below}
 use Rattle.code_parts.proofs.Lists.{slice-mapped}
 use Rattle.linked_group.proofs.Lists.{in-map, slice-contains, slice-front, slice-middle, slice-unmapped}
-use Rattle.linked_group.proofs.Settings.{last-of}
+use Rattle.linked_group.proofs.Contexts.{last-of}
 use Rattle.linked_group.specs.Groups.{IsLinkedGroup, called_as, functions_of, member_in, members_of}
 use Rattle.linked_group.specs.declared.group.LinkedFunction.{LinkedFunction}
 use Rattle.linked_group.specs.declared.group.LinkedGroup.{LinkedGroup}

@@ -2,5 +2,5 @@ pub mod Calls
 pub mod Joining
 pub mod Lists
 pub mod Placing
-pub mod Settings
+pub mod Contexts
 pub mod Together

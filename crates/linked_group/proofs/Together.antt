@@ -18,7 +18,7 @@ use Rattle.code_parts.specs.declared.part.Part.{Part}
 use Rattle.code_parts.specs.declared.part.Part.TheVariants.{Rest}
 use Rattle.code_parts.specs.Bodies.{Flow, part_body, part_def}
 use Rattle.code_parts.specs.Graph.{CallsBelow, HasPart, IsPart}
-use Rattle.code_parts.specs.Flows.{Setting, place_in, setting_of}
+use Rattle.code_parts.specs.Flows.{Context, place_in, context_of}
 use Rattle.code_parts.specs.Members.{AreBased, AreMembers, CallsBefore, IsMember, Member, defs_of, flow_at}
 use Rattle.code_parts.proofs.FlowCode.{is-code}
 use Rattle.code_parts.proofs.FlowEntry.{whole-is}
@@ -29,8 +29,8 @@ use Rattle.code_parts.proofs.Members.{are-members, defs-there}
 use Rattle.code_parts.proofs.WellFormed.{part-formed}
 use Rattle.linked_group.proofs.Calls.{IsCallee, calls-before, entry-at, flow-callee}
 use Rattle.linked_group.proofs.Lists.{contains-slice, in-map, out-map, slice-behind, slice-contains, slice-front, slice-middle, slice-unmapped, split-last}
-use Rattle.linked_group.proofs.Settings.{all-low, have-of, last-of, linked-of, member-of, order-of, parts_of_all, set-of}
-use Rattle.linked_group.specs.Groups.{IsLinkedGroup, called_as, functions_of, group_in, member_in, members_of, setting_in}
+use Rattle.linked_group.proofs.Contexts.{all-low, have-of, last-of, linked-of, member-of, order-of, parts_of_all, set-of}
+use Rattle.linked_group.specs.Groups.{IsLinkedGroup, called_as, functions_of, group_in, member_in, members_of, context_in}
 use Rattle.linked_group.specs.declared.group.LinkedFunction.{LinkedFunction}
 use Rattle.linked_group.specs.declared.group.LinkedGroup.{LinkedGroup}
 
@@ -132,7 +132,7 @@ module _ (code : Bytes) (e : ℕ) (bytes : AreBytes code) (s : LinkedGroup) (are
   all-members =
       subst (λ (ms : List Member). AreMembers true code ms (member_in s split.last) (group_in s name)) (sym members-split)
       (are-members true code (map (member_in s) split.front) (member_in s split.last) (group_in s name) (ap defs_of members-split) (subst (AreBased 0) members-split is.based) (subst (CallsBefore []) members-split (calls-before code e s are is))
-      (λ m c. by (λ m. IsMember true code s.code.ranges m × (m.setting.regs ≡ s.regs) × (m.setting.mems ≡ s.mems)) (λ f d. (member-of code e bytes s are is f d, refl, refl)) m (subst (λ (ms : List Member). Contains ms m) (sym members-split) c)))
+      (λ m c. by (λ m. IsMember true code s.code.ranges m × (m.context.regs ≡ s.regs) × (m.context.mems ≡ s.mems)) (λ f d. (member-of code e bytes s are is f d, refl, refl)) m (subst (λ (ms : List Member). Contains ms m) (sym members-split) c)))
 
   pub members-are : (m : Member) × (m.at ≡ e) × AreMembers true code (members_of s) m (group_in s name)
   members-are = (member_in s split.last, main-entry, all-members)
@@ -153,7 +153,7 @@ module _ (code : Bytes) (e : ℕ) (bytes : AreBytes code) (s : LinkedGroup) (are
       (there-at (flow_at (member_in s f)) (number_of f.function.now.forest) f.parts (order-of code e bytes s are is f c) p there)
 
   whole-of : (f : LinkedFunction) → Contains s.functions f → IsPart (flow_at (member_in s f)) (Rest None f.function.now.graph.entry)
-  whole-of f c = whole-is true code f.function.now.entry f.function.now.graph f.function.now.forest (setting_of (setting_in s f)) (linked-of code e bytes s are is f c).graph (linked-of code e bytes s are is f c).forest (order-of code e bytes s are is f c)
+  whole-of f c = whole-is true code f.function.now.entry f.function.now.graph f.function.now.forest (context_of (context_in s f)) (linked-of code e bytes s are is f c).graph (linked-of code e bytes s are is f c).forest (order-of code e bytes s are is f c)
 
   pub entered-at-entry : option_map (λ (d : DefTree). d.entry) (slice_get (group_in s name).defs (listed_def (group_in s name))) ≡ Some e
   entered-at-entry =
@@ -179,7 +179,7 @@ module _ (code : Bytes) (e : ℕ) (bytes : AreBytes code) (s : LinkedGroup) (are
       → DefIsWellFormed (group_in s name) d (part_def (flow_at (member_in s f)) p)
   formed-at f c k p d at number own =
       let fl : Flow = flow_at (member_in s f) in
-      let t : Setting = setting_of (setting_in s f) in
+      let t : Context = context_of (context_in s f) in
       let graph = (linked-of code e bytes s are is f c).graph in
       let forest = (linked-of code e bytes s are is f c).forest in
       let order = order-of code e bytes s are is f c in
@@ -187,12 +187,12 @@ module _ (code : Bytes) (e : ℕ) (bytes : AreBytes code) (s : LinkedGroup) (are
       let callee = flow-callee code e bytes s are is row.0 f row.1 in
       let is_part = part-at (flow_at (member_in s f)) (number_of f.function.now.forest) f.parts order k p at in
       let placed : f.base + place_in f.parts p ≡ d = (let z = is_part.1 in omega (arith, z, number)) in
-      part-formed (flow_at (member_in s f)) (group_in s name) p d refl refl (is-graph true code f.function.now.entry f.function.now.graph f.function.now.forest (setting_of (setting_in s f)) graph forest)
-      (is-code true code f.function.now.entry f.function.now.graph f.function.now.forest (setting_of (setting_in s f)) s.code.ranges graph forest bytes (have-of code e bytes s are is f c) (set-of code e bytes s are is f c))
+      part-formed (flow_at (member_in s f)) (group_in s name) p d refl refl (is-graph true code f.function.now.entry f.function.now.graph f.function.now.forest (context_of (context_in s f)) graph forest)
+      (is-code true code f.function.now.entry f.function.now.graph f.function.now.forest (context_of (context_in s f)) s.code.ranges graph forest bytes (have-of code e bytes s are is f c) (set-of code e bytes s are is f c))
       (λ q there low. has-part f c q there) (λ n y node calls low. callee-exits row.0 y (callee n y node calls).0)
       (exits_there (group_in s name) d (part_def (flow_at (member_in s f)) p) own) is_part.0
       (subst (λ n. CallsBelow n (part_body (flow_at (member_in s f)) p)) placed
-      (calls-below true code f.function.now.entry f.function.now.graph f.function.now.forest (setting_of (setting_in s f)) graph forest order (λ n y node calls. (callee n y node calls).1) p is_part.0))
+      (calls-below true code f.function.now.entry f.function.now.graph f.function.now.forest (context_of (context_in s f)) graph forest order (λ n y node calls. (callee n y node calls).1) p is_part.0))
 
   pub formed : IsWellFormed (group_in s name)
   formed d def own =

@@ -15,7 +15,7 @@ use Rattle.call_graph.specs.declared.function.Function.{Function}
 use Rattle.code_parts.specs.declared.callee.Callee.{Callee}
 use Rattle.code_parts.specs.declared.part.Part.TheVariants.{Rest}
 use Rattle.code_parts.specs.Graph.{is_jump_through}
-use Rattle.code_parts.specs.Flows.{SettingOf, alone, flow_of, node_code, place_in, setting_of}
+use Rattle.code_parts.specs.Flows.{ContextOf, alone, flow_of, node_code, place_in, context_of}
 use Rattle.code_parts.specs.Members.{AreBased, Member, defs_of}
 use Rattle.code_parts.specs.Order.{AreParts}
 use Rattle.linked_group.specs.declared.group.LinkedFunction.{LinkedFunction}
@@ -59,11 +59,11 @@ called_as f = record {
 }
 
 -- what its flow has beside its graph
-abbrev pub setting_in : LinkedGroup → LinkedFunction → SettingOf
-setting_in s f = record { base = f.base; parts = f.parts; regs = s.regs; mems = s.mems; second = []; functions = s.callees }
+abbrev pub context_in : LinkedGroup → LinkedFunction → ContextOf
+context_in s f = record { base = f.base; parts = f.parts; regs = s.regs; mems = s.mems; second = []; functions = s.callees }
 
 abbrev pub member_in : LinkedGroup → LinkedFunction → Member
-member_in s f = record { at = f.function.now.entry; graph = f.function.now.graph; forest = f.function.now.forest; setting = setting_of (setting_in s f) }
+member_in s f = record { at = f.function.now.entry; graph = f.function.now.graph; forest = f.function.now.forest; context = context_of (context_in s f) }
 
 -- ---- the group
 

@@ -1,13 +1,13 @@
 //! Linked functions, as one group.
 
 ghost use Rattle.std.specs.Prelude.{◌≡◌, IfOk};
-ghost use Rattle.linked_group.specs.Groups.{AreSomeFunctions, IsLinkedGroup, functions_of, setting_in};
+ghost use Rattle.linked_group.specs.Groups.{AreSomeFunctions, IsLinkedGroup, functions_of, context_in};
 
 use crate::code::code_of_all;
 use crate::places::places_of;
 use crate::uses::{memories, registers_of_all};
 use call_graph::Function;
-use code_parts::{Callee, Part, Setting};
+use code_parts::{Callee, Part, Context};
 use rv_words::{List, NoMemory};
 use std::alloc::Global;
 use word_terms::Code;
@@ -37,10 +37,10 @@ pub struct LinkedGroup<'a> {
 
 impl<'a> LinkedGroup<'a> {
     /// What the flow of one of the functions has beside its graph.
-    pub fn setting<'b>(&'b self, function: &'b LinkedFunction<'a>) -> Setting<'b>
-        ensures { result ≡ setting_in self.now function.now }
+    pub fn context<'b>(&'b self, function: &'b LinkedFunction<'a>) -> Context<'b>
+        ensures { result ≡ context_in self.now function.now }
     {
-        Setting {
+        Context {
             base: function.base,
             parts: function.parts.as_slice(),
             regs: self.regs.as_slice(),

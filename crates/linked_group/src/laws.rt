@@ -19,7 +19,7 @@ ghost use Rattle.linked_group.specs.declared.group.LinkedGroup.{LinkedGroup as T
 /// The functions of an entry, as one group: what their flows rest on, and that the group of their
 /// definitions is well-formed and is entered where the code is.
 pub fn law_of_groups()
-    // Each flow is of code that is reached, its setting fits, the code has its instructions, and
+    // Each flow is of code that is reached, its context fits, the code has its instructions, and
     // its numbers are small.
     ensures reached { (code : Bytes) (e : ℕ) (s : TheGroup)
         → AreBytes code
@@ -34,7 +34,7 @@ pub fn law_of_groups()
         → IsLinkedGroup s
         → (m : Member)
         → Contains (members_of s) m
-        → IsSetFor m.graph m.setting }
+        → IsSetFor m.graph m.context }
     ensures instructions { (code : Bytes) (e : ℕ) (s : TheGroup)
         → AreBytes code
         → AreFunctions code e (functions_of s)

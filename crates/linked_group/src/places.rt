@@ -41,7 +41,7 @@ fn placed<'a>(
 }
 
 /// How many definitions stand before those behind a function's. That there would be too many to be
-/// numbered is answered as want of memory.
+/// numbered is answered as out of memory.
 fn behind(function: &LinkedFunction<'_>) -> Result<u32, NoMemory>
     ensures { IfOk result (λ n. n ≡ function.now.base + length function.now.parts) }
 {

@@ -8,7 +8,7 @@ use Rattle.flow_graph.specs.Flow.{Next}
 use Rattle.flow_graph.specs.Graph.{GraphOf, HasEdge, IsFlow, IsGraphOf, number}
 use Rattle.flow_graph.specs.Walks.{Reaches, Stop}
 use Rattle.loop_forest.specs.Cycles.{IsLinked, IsCycle, Enters, ShowsTwoEntries, TwoEntries, last_of}
-use Rattle.loop_forest.specs.Loops.{IsSettled}
+use Rattle.loop_forest.specs.Loops.{IsPostOrder}
 use Rattle.flow_graph.proofs.Ways.{place_of, node_at}
 use Rattle.flow_graph.proofs.NumberLemmas.{different_from_rising, number_at, number_within}
 use Rattle.flow_graph.proofs.FlowLemmas.{edge_is, is_flow}
@@ -111,8 +111,8 @@ graph_numbers g f = record {
   same = λ u r. number_at g.addrs (different_from_rising g.addrs f.rising) u (get_or g.addrs u 0) (reached_node g f u r) refl;
 }
 
-pub graph_settled : (g : GraphOf) (left : ℕ → ℕ) → IsFlow g → IsSettled (HasEdge g) g.entry left → TwoEntries (GoesTo g) (entry_at g) → ⊥
-graph_settled g left f s = none_with_two_entries (entry_at g) (λ a. left (number g.addrs a)) (lifted (HasEdge g) (GoesTo g) g.entry (λ u. get_or g.addrs u 0) (number g.addrs) left (graph_numbers g f) s)
+pub graph_in_post_order : (g : GraphOf) (left : ℕ → ℕ) → IsFlow g → IsPostOrder (HasEdge g) g.entry left → TwoEntries (GoesTo g) (entry_at g) → ⊥
+graph_in_post_order g left f s = none_with_two_entries (entry_at g) (λ a. left (number g.addrs a)) (lifted (HasEdge g) (GoesTo g) g.entry (λ u. get_or g.addrs u 0) (number g.addrs) left (graph_numbers g f) s)
 
 -- the same for the successors in the code
 code_numbers : (linked : Bool) (code : Bytes) (e : ℕ) (g : GraphOf) → IsGraphOf linked code e g → Numbers (HasEdge g) (Next linked code) g.entry (λ u. get_or g.addrs u 0) (number g.addrs)
@@ -130,8 +130,8 @@ code_numbers linked code e g r = record {
 pub entry_is : (linked : Bool) (code : Bytes) (e : ℕ) (g : GraphOf) → IsGraphOf linked code e g → entry_at g ≡ e
 entry_is linked code e g r = ap (λ n. get_or g.addrs n 0) r.entry ∙ (number_within g.addrs e (r.reach.all e Stop)).1
 
-pub code_settled : (linked : Bool) (code : Bytes) (e : ℕ) (g : GraphOf) (left : ℕ → ℕ) → IsGraphOf linked code e g → IsSettled (HasEdge g) g.entry left → TwoEntries (Next linked code) e → ⊥
-code_settled linked code e g left r s t =
+pub code_in_post_order : (linked : Bool) (code : Bytes) (e : ℕ) (g : GraphOf) (left : ℕ → ℕ) → IsGraphOf linked code e g → IsPostOrder (HasEdge g) g.entry left → TwoEntries (Next linked code) e → ⊥
+code_in_post_order linked code e g left r s t =
     none_with_two_entries (entry_at g) (λ a. left (number g.addrs a)) (lifted (HasEdge g) (Next linked code) g.entry (λ u. get_or g.addrs u 0) (number g.addrs) left (code_numbers linked code e g r) s)
     (subst (λ (z : ℕ). TwoEntries (Next linked code) z) (sym (entry_is linked code e g r)) t)
 

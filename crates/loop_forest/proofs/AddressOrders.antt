@@ -1,7 +1,7 @@
 -- From node numbers to addresses: an order that settles the one settles the other.
 use Rattle.std.proofs.Common.{◌≡◌, ℕ, ◌<◌, ◌≢◌, inl, inr, refl, sym, ◌∙◌, ap, subst}
 use Rattle.flow_graph.specs.Walks.{Way, Stop, Leave, Reaches}
-use Rattle.loop_forest.specs.Loops.{IsSettled}
+use Rattle.loop_forest.specs.Loops.{IsPostOrder}
 use Rattle.flow_graph.proofs.Ways.{way-join, way-weaken}
 
 -- A is between nodes, B between addresses; each edge of a reached node's address is an edge of the node
@@ -16,7 +16,7 @@ walk_back {A} {B} {e} {addr} {node} n {P} (Leave {a = a} {c = c} p d w) u r q =
     let t = walk_back n w s.0 (way-join r (Leave tt s.1 Stop)) s.2 in
     (t.0, t.1, t.2, Leave (subst P (sym q) p) s.1 t.3)
 
-pub lifted : (A B : ℕ → ℕ → Type 0) (e : ℕ) (addr node left : ℕ → ℕ) → Numbers A B e addr node → IsSettled A e left → IsSettled B (addr e) (λ a. left (node a))
+pub lifted : (A B : ℕ → ℕ → Type 0) (e : ℕ) (addr node left : ℕ → ℕ) → Numbers A B e addr node → IsPostOrder A e left → IsPostOrder B (addr e) (λ a. left (node a))
 lifted A B e addr node left n s = record {
   edge = λ a b r d.
       let u = walk_back n r e Stop refl in

@@ -2,7 +2,7 @@
 use Rattle.std.proofs.Common.{ℕ, ◌<◌, ◌≤◌, inl, inr, arith, subst}
 use Rattle.std.proofs.lemmas.Bool.Decides.{leb_tells}
 use Rattle.flow_graph.specs.Walks.{Way, Stop, Leave, AnyNode, Reaches}
-use Rattle.loop_forest.specs.Loops.{IsMetBefore, IsSettled}
+use Rattle.loop_forest.specs.Loops.{Dominates, IsPostOrder}
 use Rattle.loop_forest.specs.Loops.{IsBackEdge}
 use Rattle.flow_graph.proofs.Ways.{way-join, way-weaken, first_or_none, apart_or_from}
 
@@ -20,7 +20,7 @@ way_falls E left Stop = omega arith
 way_falls E left (Leave {a = a} {c = c} p d w) = omega (arith, way_falls E left w, d.1)
 
 -- to each reached node there is a walk that goes down at each edge
-pub falling_walk : (E : ℕ → ℕ → Type 0) (e : ℕ) (left : ℕ → ℕ) → IsSettled E e left → {a b : ℕ} → Reaches E e a → Way (Falls E left) AnyNode e a → Way E AnyNode a b → Way (Falls E left) AnyNode e b
+pub falling_walk : (E : ℕ → ℕ → Type 0) (e : ℕ) (left : ℕ → ℕ) → IsPostOrder E e left → {a b : ℕ} → Reaches E e a → Way (Falls E left) AnyNode e a → Way E AnyNode a b → Way (Falls E left) AnyNode e b
 falling_walk E e left s r f Stop = f
 falling_walk E e left s r f (Leave {a = a} {c = c} p d w) =
     falling_walk E e left s (way-join r (Leave tt d Stop))
@@ -34,7 +34,7 @@ falling_walk E e left s r f (Leave {a = a} {c = c} p d w) =
     w
 
 -- an edge that goes down is no back edge
-pub falling_not_back : (E : ℕ → ℕ → Type 0) (e : ℕ) (left : ℕ → ℕ) → IsSettled E e left → (u h : ℕ) → Reaches E e u → left h < left u → IsMetBefore E e h u → ⊥
+pub falling_not_back : (E : ℕ → ℕ → Type 0) (e : ℕ) (left : ℕ → ℕ) → IsPostOrder E e left → (u h : ℕ) → Reaches E e u → left h < left u → Dominates E e h u → ⊥
 falling_not_back E e left s u h r l m =
     let f = falling_walk E e left s Stop Stop r in
     elim (apart_or_from h f) [
@@ -42,7 +42,7 @@ falling_not_back E e left s u h r l m =
       | inr v ↦ absurd (omega (arith, way_falls E left v))
     ]
 
-pub back_iff : (E : ℕ → ℕ → Type 0) (e : ℕ) (left : ℕ → ℕ) → IsSettled E e left → (u h : ℕ) → Reaches E e u → E u h → (IsBackEdge E e u h → left u ≤ left h) × (left u ≤ left h → IsBackEdge E e u h)
+pub back_iff : (E : ℕ → ℕ → Type 0) (e : ℕ) (left : ℕ → ℕ) → IsPostOrder E e left → (u h : ℕ) → Reaches E e u → E u h → (IsBackEdge E e u h → left u ≤ left h) × (left u ≤ left h → IsBackEdge E e u h)
 back_iff E e left s u h r d = (
   λ b. elim (s.edge u h r d) [ inl l ↦ absurd (falling_not_back E e left s u h r l b.met) | inr m ↦ not_below (left h) (left u) (λ l. falling_not_back E e left s u h r l b.met) ],
   λ n. record { edge = d; met = elim (s.edge u h r d) [ inl l ↦ absurd (omega arith) | inr m ↦ m ] },

@@ -19,7 +19,7 @@ some_pred g marks base n f b l out none =
 
 -- and its number is larger
 pub pred_number : (g : GraphOf) (marks : List Mark) (base : List Bool) (u n : ℕ) → IsFlow g → HasBases g marks base → u < length g.addrs → (IsMarked base n → ⊥) → HasEdge g u n → number_of (mark_of marks n) < number_of (mark_of marks u)
-pred_number g marks base u n f b l out d = down_to_no_head (HasEdge g) g.entry (λ x. number_of (mark_of marks x)) b.settled u n (f.reached u l) d (λ h. out (b.heads n h))
+pred_number g marks base u n f b l out d = down_to_no_head (HasEdge g) g.entry (λ x. number_of (mark_of marks x)) b.in_post_order u n (f.reached u l) d (λ h. out (b.heads n h))
 
 pub one_more : (k steps : ℕ) → ((k + 1) % 32 + steps) % 32 ≡ (k + (steps + 1) % 32) % 32
 one_more k steps = omega arith

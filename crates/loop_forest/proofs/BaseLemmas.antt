@@ -13,7 +13,7 @@ use Rattle.loop_forest.specs.Cuts.{IsBase, Entry, Head, Exit, Joined}
 use Rattle.loop_forest.specs.inner.Bases.{AreBases, ArePlaces, HasBases, IsBaseOf, IsEnd, IsMarked}
 use Rattle.loop_forest.specs.inner.DepthFirst.{mark_of, number_of}
 use Rattle.loop_forest.specs.declared.depth_first.Mark.{Mark}
-use Rattle.loop_forest.specs.Loops.{IsSettled}
+use Rattle.loop_forest.specs.Loops.{IsPostOrder}
 use Rattle.std.proofs.Math.ListN.{get_or-eq_default}
 use Rattle.std.proofs.lemmas.Bool.Decides.{leb_tells}
 use Rattle.loop_forest.specs.inner.Found.{AreLoops, IsLooped, heads}
@@ -100,9 +100,9 @@ places_more g base places n p a s = record {
 
 -- what the table needs for places
 pub has_bases : (g : GraphOf) (loops : List LoopWithExits) (marks : List Mark) (table : List Bool) → IsFlow g → AreLoops g loops (length g.addrs) → AreBases g loops table (length g.addrs)
-    → IsSettled (HasEdge g) g.entry (λ x. number_of (mark_of marks x)) → ((x : ℕ) → number_of (mark_of marks x) ≤ length g.addrs) → HasBases g marks table
+    → IsPostOrder (HasEdge g) g.entry (λ x. number_of (mark_of marks x)) → ((x : ℕ) → number_of (mark_of marks x) ≤ length g.addrs) → HasBases g marks table
 has_bases g loops marks table f a t s n = record {
-  settled = s;
+  in_post_order = s;
   numbers = n;
   entry = (t.each g.entry f.entry).1 (inl refl);
   heads = λ h k. (t.each h (head_below g h f k)).1 (base_of g loops h f a (Head k));

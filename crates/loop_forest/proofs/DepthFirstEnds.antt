@@ -10,7 +10,7 @@ use Rattle.std.proofs.Math.ListN.{set, length-set}
 use Rattle.flow_graph.specs.Graph.{GraphOf, HasEdge}
 use Rattle.flow_graph.specs.Walks.{Way, Stop, Leave, AnyNode, Reaches}
 use Rattle.loop_forest.specs.Cycles.{last_of, ShowsTwoEntries, Enters}
-use Rattle.loop_forest.specs.Loops.{IsSettled}
+use Rattle.loop_forest.specs.Loops.{IsPostOrder}
 use Rattle.loop_forest.specs.inner.SecondEntry.{EntersBeside}
 use Rattle.loop_forest.specs.inner.DepthFirst.{mark_of, is_new, number_of, Searching}
 use Rattle.loop_forest.specs.declared.depth_first.Mark.{Mark}
@@ -67,7 +67,7 @@ count_from a (suc n) = count_from (a + 1) n ∙ (let z : (a + 1) + n ≡ a + suc
 pub count_replicate : (n : ℕ) → count_by is_new (replicate n New) ≡ n
 count_replicate n = count_from 0 n ∙ (let z : 0 + n ≡ n = omega arith in z)
 
--- where the path is empty, every reached node was left, so each edge is settled
+-- where the path is empty, every reached node was left, so each edge is in_post_order
 reached_left : (g : GraphOf) (e : ℕ) (marks : List Mark) (count : ℕ) → Searching g e marks [] count → {a b : ℕ} → Way (HasEdge g) AnyNode a b → (n : ℕ) × (mark_of marks a ≡ Done n) → (n : ℕ) × (mark_of marks b ≡ Done n)
 reached_left g e marks count s Stop h = h
 reached_left g e marks count s (Leave {a = a} {c = c} p d w) h =
@@ -76,8 +76,8 @@ reached_left g e marks count s (Leave {a = a} {c = c} p d w) h =
     closed_left : (g : GraphOf) (e : ℕ) (marks : List Mark) (count : ℕ) → Searching g e marks [] count → (x : ℕ) → is_new (mark_of marks x) ≡ false → (n : ℕ) × (mark_of marks x ≡ Done n)
     closed_left g e marks count s x seen = was_left (mark_of marks x) seen (λ i q. absurd (omega (arith, (s.on_path x i q).0)))
 
-pub settled_end : (g : GraphOf) (e : ℕ) (marks : List Mark) (count : ℕ) → Searching g e marks [] count → IsSettled (HasEdge g) e (λ x. number_of (mark_of marks x))
-settled_end g e marks count s = record {
+pub post_order_end : (g : GraphOf) (e : ℕ) (marks : List Mark) (count : ℕ) → Searching g e marks [] count → IsPostOrder (HasEdge g) e (λ x. number_of (mark_of marks x))
+post_order_end g e marks count s = record {
   edge = λ u v r d.
       let n = reached_left g e marks count s r (was_left (mark_of marks e) s.seen (λ i q. absurd (omega (arith, (s.on_path e i q).0)))) in
       elim ((s.left u n.0 n.1).1 v d) [
@@ -89,9 +89,9 @@ settled_end g e marks count s = record {
       ];
 }
 
-pub settled_at_end : (g : GraphOf) (e : ℕ) (marks : List Mark) (path : List ℕ) (count : ℕ) → Searching g e marks path count → length path ≡ 0 → IsSettled (HasEdge g) e (λ x. number_of (mark_of marks x))
-settled_at_end g e marks [] count s z = settled_end g e marks count s
-settled_at_end g e marks (x ∷ xs) count s z = absurd (omega arith)
+pub post_order_at_end : (g : GraphOf) (e : ℕ) (marks : List Mark) (path : List ℕ) (count : ℕ) → Searching g e marks path count → length path ≡ 0 → IsPostOrder (HasEdge g) e (λ x. number_of (mark_of marks x))
+post_order_at_end g e marks [] count s z = post_order_end g e marks count s
+post_order_at_end g e marks (x ∷ xs) count s z = absurd (omega arith)
 
 pub different_end : (g : GraphOf) (e : ℕ) (marks : List Mark) (count : ℕ) → Searching g e marks [] count → (u v : ℕ) → Reaches (HasEdge g) e u → Reaches (HasEdge g) e v
     → number_of (mark_of marks u) ≡ number_of (mark_of marks v) → u ≡ v

@@ -59,7 +59,7 @@ mark_other marks v m x n = get_or-set_other marks v x m New n
 seen_kept : (marks : List Mark) (v : ℕ) (m : Mark) → v < length marks → is_new m ≡ false → (x : ℕ) → is_new (mark_of marks x) ≡ false → is_new (mark_of (set marks v m) x) ≡ false
 seen_kept marks v m l s x h = elim (cases_eq x v) [ inl e ↦ ap is_new (mark_same marks v m l x e) ∙ s | inr n ↦ ap is_new (mark_other marks v m x n) ∙ h ]
 
--- a settled edge stays so, where a node that wasn't left is marked
+-- a in_post_order edge stays so, where a node that wasn't left is marked
 done_kept : (g : GraphOf) (e : ℕ) (marks : List Mark) (v : ℕ) (m : Mark) → v < length marks → is_new m ≡ false → ((n : ℕ) → mark_of marks v ≡ Done n → ⊥)
     → (n u w : ℕ) → IsDone g e marks n u w → IsDone g e (set marks v m) n u w
 done_kept g e marks v m l s open_v n u w (inl d) = inl (d.0, mark_other marks v m w (λ q. open_v d.0 (ap (λ z. mark_of marks z) (sym q) ∙ d.1)) ∙ d.1, d.2)

@@ -4,7 +4,7 @@ use Rattle.std.specs.List.{Contains}
 use Rattle.std.proofs.lemmas.List.{get_or-map}
 use Rattle.flow_graph.specs.Graph.{GraphOf, HasEdge, IsFlow, IsRising}
 use Rattle.flow_graph.proofs.Ways.{Contains-cons, place_of}
-use Rattle.loop_forest.specs.Loops.{IsExit, IsHead, IsSettled}
+use Rattle.loop_forest.specs.Loops.{IsExit, IsHead, IsPostOrder}
 use Rattle.loop_forest.specs.Forest.{IsForestOf, IsMany}
 use Rattle.loop_forest.specs.Regions.{HasManyExits, loop_exit_limit}
 use Rattle.loop_forest.specs.inner.Found.{AreLoops, heads}
@@ -14,14 +14,14 @@ use Rattle.loop_forest.specs.inner.Bases.{AreBases, ArePlaces}
 use Rattle.loop_forest.specs.inner.DepthFirst.{IsNumbered, mark_of, number_of}
 use Rattle.loop_forest.specs.declared.heads.LoopWithExits.{LoopWithExits}
 use Rattle.loop_forest.specs.declared.depth_first.Mark.{Mark}
-use Rattle.loop_forest.proofs.AddressLemmas.{graph_settled}
+use Rattle.loop_forest.proofs.AddressLemmas.{graph_in_post_order}
 use Rattle.loop_forest.proofs.BaseLemmas.{head_below, places_are}
 use Rattle.loop_forest.proofs.SmallestLoop.{closest_around, closest_within, head_at, head_is, heads_long, in_loop, looped_at, loops_few}
 use Rattle.loop_forest.proofs.FoundLemmas.{no_loop}
 use Rattle.loop_forest.proofs.LoopNodes.{exit_is, exit_of}
 
-pub settled_same : (E : ℕ → ℕ → Type 0) (e : ℕ) (left other : ℕ → ℕ) → ((x : ℕ) → left x ≡ other x) → IsSettled E e left → IsSettled E e other
-settled_same E e left other same s = record {
+pub post_order_same : (E : ℕ → ℕ → Type 0) (e : ℕ) (left other : ℕ → ℕ) → ((x : ℕ) → left x ≡ other x) → IsPostOrder E e left → IsPostOrder E e other
+post_order_same E e left other same s = record {
   edge = λ u v r d. elim (s.edge u v r d) [ inl l ↦ inl (omega (arith, l, same u, same v)) | inr m ↦ inr m ];
 }
 
@@ -86,10 +86,10 @@ forest_is g loops regions marks table places f m a r t p = record {
   regions = λ n l. closest_around g loops n (get_or regions n None) f a (r.each n l);
   within = λ n l i e. closest_within g (heads loops) n l (get_or regions n None) (r.each n i) e;
   places = λ n l. places_are g loops table n (get_or places n 0) f a t (p.each n l);
-  settled = settled_same (HasEdge g) g.entry (λ x. number_of (mark_of marks x)) (λ x. get_or (map number_of marks) x 0) (numbers_are marks) m.settled;
+  in_post_order = post_order_same (HasEdge g) g.entry (λ x. number_of (mark_of marks x)) (λ x. get_or (map number_of marks) x 0) (numbers_are marks) m.in_post_order;
   different = λ n k l i same. m.different n k (f.reached n l) (f.reached k i) (numbers_are marks n ∙ same ∙ sym (numbers_are marks k));
   as_long = p.as_long;
 }
 
-pub many_of_order : (g : GraphOf) (marks : List Mark) (h a : ℕ) → IsFlow g → IsSettled (HasEdge g) g.entry (λ x. number_of (mark_of marks x)) → HasManyExits (HasEdge g) g.entry h → a ≡ get_or g.addrs h 0 → IsMany g a
-many_of_order g marks h a f s m q = record { one_entry = graph_settled g (λ x. number_of (mark_of marks x)) f s; head = h; many = m; at = sym q }
+pub many_of_order : (g : GraphOf) (marks : List Mark) (h a : ℕ) → IsFlow g → IsPostOrder (HasEdge g) g.entry (λ x. number_of (mark_of marks x)) → HasManyExits (HasEdge g) g.entry h → a ≡ get_or g.addrs h 0 → IsMany g a
+many_of_order g marks h a f s m q = record { one_entry = graph_in_post_order g (λ x. number_of (mark_of marks x)) f s; head = h; many = m; at = sym q }

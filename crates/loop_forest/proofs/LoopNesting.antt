@@ -3,7 +3,7 @@ use Rattle.std.proofs.Common.{◌≡◌, ℕ, ◌≢◌, ◌⊎◌, List, length
 use Rattle.std.proofs.lemmas.Bool.{cases_eq}
 use Rattle.std.specs.List.{Contains}
 use Rattle.flow_graph.specs.Walks.{Way, Leave, Reaches}
-use Rattle.loop_forest.specs.Loops.{IsMetBefore, IsSettled}
+use Rattle.loop_forest.specs.Loops.{Dominates, IsPostOrder}
 use Rattle.loop_forest.specs.Cycles.{IsCycle, last_of}
 use Rattle.loop_forest.specs.Loops.{IsHead, InLoop, AtHead, Inside}
 use Rattle.flow_graph.proofs.Ways.{way-join, way-weaken, first_or_none, last_or_none, apart_or_from, place_of, node_at}
@@ -14,12 +14,12 @@ pub to_first : {E : ℕ → ℕ → Type 0} {P : ℕ → Type 0} (a h : ℕ) →
 to_first a h w = elim (first_or_none h w) [ inl v ↦ v | inr v ↦ v ]
 
 -- every walk from the entry to a node of the loop meets the head
-pub loop_is_met : {E : ℕ → ℕ → Type 0} (e h x : ℕ) → InLoop E e h x → IsMetBefore E e h x
+pub loop_is_met : {E : ℕ → ℕ → Type 0} (e h x : ℕ) → InLoop E e h x → Dominates E e h x
 loop_is_met e h _ AtHead = record { met = λ w. refl }
 loop_is_met e h x (Inside b r) = record { met = λ w. absurd (r.last (b.met.met (way-join w r.way))) }
 
 -- of two different nodes that are reached not each is met before the other
-pub met_before_differ : {E : ℕ → ℕ → Type 0} (e a b : ℕ) → Reaches E e a → IsMetBefore E e a b → IsMetBefore E e b a → a ≡ b
+pub met_before_differ : {E : ℕ → ℕ → Type 0} (e a b : ℕ) → Reaches E e a → Dominates E e a b → Dominates E e b a → a ≡ b
 met_before_differ e a b r ab ba =
     elim (first_or_none b (to_first e a r)) [
       | inl w ↦ ba.met (way-weaken (λ n d. d.1) w)
@@ -72,12 +72,12 @@ nested_or_apart {E} e g h to_g to_h z to_z in_g in_h =
     tells g h x = elim (cases_eq x g) [ inl s ↦ inl (inl s) | inr m ↦ elim (cases_eq x h) [ inl s ↦ inl (inr s) | inr n ↦ inr (λ d. elim d [ inl q ↦ m q | inr q ↦ n q ]) ] ]
 
 -- in an order that settles each edge, every cycle that is reached has a loop head, and every walk to the cycle meets it first
-pub cycle_head : {E : ℕ → ℕ → Type 0} (e : ℕ) (left : ℕ → ℕ) → IsSettled E e left → (c : List ℕ) → IsCycle E c → (x : ℕ) → Contains c x → Reaches E e x → (h : ℕ) × Contains c h × IsHead E e h
-cycle_head {E} e left settled c i x cx to_x =
+pub cycle_head : {E : ℕ → ℕ → Type 0} (e : ℕ) (left : ℕ → ℕ) → IsPostOrder E e left → (c : List ℕ) → IsCycle E c → (x : ℕ) → Contains c x → Reaches E e x → (h : ℕ) × Contains c h × IsHead E e h
+cycle_head {E} e left in_post_order c i x cx to_x =
     let l = largest_node left c i.some in
     let p = place_of c l.0 l.1 in
     let u = before c i l.0 l.1 in
-    (l.0, l.1, record { source = u.0; back = record { edge = u.2; met = back_edge e left settled c l.0 l.1 l.2 u.0 u.1 (way-join to_x (way-weaken (λ n d. tt) (way_round c i x u.0 cx u.1))) u.2 } })
+    (l.0, l.1, record { source = u.0; back = record { edge = u.2; met = back_edge e left in_post_order c l.0 l.1 l.2 u.0 u.1 (way-join to_x (way-weaken (λ n d. tt) (way_round c i x u.0 cx u.1))) u.2 } })
   where
     -- the node of the cycle before h
     before : {E : ℕ → ℕ → Type 0} (c : List ℕ) → IsCycle E c → (h : ℕ) → Contains c h → (u : ℕ) × Contains c u × E u h

@@ -4,7 +4,7 @@ use Rattle.std.specs.List.{Contains}
 use Rattle.std.proofs.lemmas.List.Elements.{Contains-push, Contains-push_cases, Contains-append_left}
 use Rattle.flow_graph.specs.Graph.{GraphOf, HasEdge, IsRising, preds_of, succs_of}
 use Rattle.flow_graph.specs.Walks.{Way}
-use Rattle.loop_forest.specs.Loops.{IsMetBefore}
+use Rattle.loop_forest.specs.Loops.{Dominates}
 use Rattle.loop_forest.specs.Loops.{IsBackEdge, InLoop, AtHead, Inside, IsExit}
 use Rattle.loop_forest.specs.inner.LoopOf.{AreBackTo, AreExits, IsIn, IsLoopOf, LeadsOut, NotesExits}
 use Rattle.loop_forest.proofs.IteratorLoops.{IsPassed, passed_end, passed_first, passed_more, passed_start}
@@ -16,7 +16,7 @@ use Rattle.loop_forest.specs.inner.Search.{FindsSources}
 use Rattle.flow_graph.proofs.Ways.{node_at, place_of, Contains-cons}
 
 -- where the entry was found, not every walk meets h
-pub not_met : (g : GraphOf) (e u h : ℕ) (N T : List ℕ) → FindsSources g (u ∷ []) h N T → Contains N e → IsMetBefore (HasEdge g) e h u → ⊥
+pub not_met : (g : GraphOf) (e u h : ℕ) (N T : List ℕ) → FindsSources g (u ∷ []) h N T → Contains N e → Dominates (HasEdge g) e h u → ⊥
 not_met g e u h N T f c m =
     let r = f.sound e c in
     elim (Contains-cons u [] r.target r.among) [

@@ -5,7 +5,7 @@ use Rattle.std.proofs.lemmas.Bool.{cases_eq}
 use Rattle.std.proofs.lemmas.Bool.Decides.{leb_tells}
 use Rattle.std.specs.List.{Contains}
 use Rattle.flow_graph.specs.Walks.{Way, Leave, AnyNode, Reaches}
-use Rattle.loop_forest.specs.Loops.{IsMetBefore, IsSettled}
+use Rattle.loop_forest.specs.Loops.{Dominates, IsPostOrder}
 use Rattle.loop_forest.specs.Cycles.{IsLinked, last_of, Enters, IsCycle, TwoEntries}
 use Rattle.flow_graph.proofs.Ways.{way-join, way-weaken, first_arrival, place_of, node_at}
 use Rattle.loop_forest.proofs.WalkLists.{way_between}
@@ -44,13 +44,13 @@ largest_node left c some =
     )
 
 -- the edge of a cycle that leads to the node that was left last leads to a node that is met before
-pub back_edge : {E : ℕ → ℕ → Type 0} (e : ℕ) (left : ℕ → ℕ) → IsSettled E e left → (c : List ℕ) → (h : ℕ) → Contains c h → ((n : ℕ) → Contains c n → left n ≤ left h)
-    → (u : ℕ) → Contains c u → Reaches E e u → E u h → IsMetBefore E e h u
-back_edge e left settled c h ch most u cu r d = elim (settled.edge u h r d) [ inl l ↦ absurd (omega (arith, most u cu)) | inr m ↦ m ]
+pub back_edge : {E : ℕ → ℕ → Type 0} (e : ℕ) (left : ℕ → ℕ) → IsPostOrder E e left → (c : List ℕ) → (h : ℕ) → Contains c h → ((n : ℕ) → Contains c n → left n ≤ left h)
+    → (u : ℕ) → Contains c u → Reaches E e u → E u h → Dominates E e h u
+back_edge e left in_post_order c h ch most u cu r d = elim (in_post_order.edge u h r d) [ inl l ↦ absurd (omega (arith, most u cu)) | inr m ↦ m ]
 
 -- every walk to a cycle first meets the node that was left last
-pub enters_at_largest : {E : ℕ → ℕ → Type 0} (e : ℕ) (left : ℕ → ℕ) → IsSettled E e left → (c : List ℕ) → IsCycle E c → (h : ℕ) → Contains c h → ((n : ℕ) → Contains c n → left n ≤ left h) → (x : ℕ) → Way E (λ n. Contains c n → ⊥) e x → Contains c x → x ≡ h
-enters_at_largest {E} e left settled c i h ch most x w cx =
+pub enters_at_largest : {E : ℕ → ℕ → Type 0} (e : ℕ) (left : ℕ → ℕ) → IsPostOrder E e left → (c : List ℕ) → IsCycle E c → (h : ℕ) → Contains c h → ((n : ℕ) → Contains c n → left n ≤ left h) → (x : ℕ) → Way E (λ n. Contains c n → ⊥) e x → Contains c x → x ≡ h
+enters_at_largest {E} e left in_post_order c i h ch most x w cx =
     elim (cases_eq x h) [
       | inl s ↦ s
       | inr n ↦
@@ -58,7 +58,7 @@ enters_at_largest {E} e left settled c i h ch most x w cx =
           let there : Way E (λ m. m ≢ h) e x = way-weaken (λ (m : ℕ) (out : Contains c m → ⊥) (q : m ≡ h). out (subst (λ (k : ℕ). Contains c k) (sym q) ch)) w in
           let on : Way E (λ m. m ≢ h) x r.0 = way-weaken (λ m d. d.1) r.1 in
           let reached : Way E AnyNode e r.0 = way-weaken (λ m d. tt) (way-join there on) in
-          absurd (r.3 ((back_edge e left settled c h ch most r.0 r.2 reached r.4).met (way-join there on)))
+          absurd (r.3 ((back_edge e left in_post_order c h ch most r.0 r.2 reached r.4).met (way-join there on)))
     ]
 
 -- a list that enters a cycle is a walk to it
@@ -68,13 +68,13 @@ way_of_entry {E} c e w s =
     subst (λ (a : ℕ). Way E (λ n. Contains c n → ⊥) a (last_of w)) s.starts
     (way_between w 0 (length w - 1) s.linked (omega arith) (omega arith) (λ k l h. s.apart k (omega arith)))
 
-pub none_with_two_entries : {E : ℕ → ℕ → Type 0} (e : ℕ) (left : ℕ → ℕ) → IsSettled E e left → TwoEntries E e → ⊥
-none_with_two_entries {E} e left settled t =
+pub none_with_two_entries : {E : ℕ → ℕ → Type 0} (e : ℕ) (left : ℕ → ℕ) → IsPostOrder E e left → TwoEntries E e → ⊥
+none_with_two_entries {E} e left in_post_order t =
     let c = t.cycle in
     let s = t.shows in
     let l = largest_node left c s.cycle_is.some in
-    s.differ (enters_at_largest e left settled c s.cycle_is l.0 l.1 l.2 (last_of t.first) (way_of_entry c e t.first s.enters_first) s.enters_first.ends
-    ∙ sym (enters_at_largest e left settled c s.cycle_is l.0 l.1 l.2 (last_of t.second) (way_of_entry c e t.second s.enters_second) s.enters_second.ends))
+    s.differ (enters_at_largest e left in_post_order c s.cycle_is l.0 l.1 l.2 (last_of t.first) (way_of_entry c e t.first s.enters_first) s.enters_first.ends
+    ∙ sym (enters_at_largest e left in_post_order c s.cycle_is l.0 l.1 l.2 (last_of t.second) (way_of_entry c e t.second s.enters_second) s.enters_second.ends))
 
 -- the other way: a path from e to u with an edge back to its place i is a cycle with an entry there
 pub path_cycle : {E : ℕ → ℕ → Type 0} (s : List ℕ) (i : ℕ) → i < length s → IsLinked E s → ((j k : ℕ) → j < k → k < length s → get_or s j 0 ≢ get_or s k 0) → E (last_of s) (get_or s i 0) → IsCycle E (drop i s)

@@ -4,7 +4,7 @@ use Rattle.std.specs.List.{Contains}
 use Rattle.std.proofs.lemmas.Bool.{cases_eq}
 use Rattle.flow_graph.specs.Walks.{Way, Stop, Leave, AnyNode, Reaches}
 use Rattle.loop_forest.specs.Cycles.{IsCycle}
-use Rattle.loop_forest.specs.Loops.{IsSettled}
+use Rattle.loop_forest.specs.Loops.{IsPostOrder}
 use Rattle.loop_forest.specs.Loops.{IsBackEdge, IsHead, InLoop, AtHead, IsExit}
 use Rattle.loop_forest.specs.Cuts.{StepsSinceCut, AtBase, After}
 use Rattle.loop_forest.specs.Regions.{IsAround}
@@ -22,18 +22,18 @@ loop_weight left h = 2 * left h
 abbrev pub rest_weight : (ℕ → ℕ) → ℕ → ℕ
 rest_weight left n = 2 * left n + 1
 
-module _ (E : ℕ → ℕ → Type 0) (e : ℕ) (reach : (a b : ℕ) → E a b → Reaches E e a) (left : ℕ → ℕ) (settled : IsSettled E e left) where
+module _ (E : ℕ → ℕ → Type 0) (e : ℕ) (reach : (a b : ℕ) → E a b → Reaches E e a) (left : ℕ → ℕ) (in_post_order : IsPostOrder E e left) where
   -- along edges to nodes that are no heads, as within a body, numbers fall
   pub body_falls : {a b : ℕ} → Way (λ x y. E x y × (IsHead E e y → ⊥)) AnyNode a b → left b ≤ left a
   body_falls Stop = omega arith
   body_falls (Leave {a = a} {c = c} p d w) =
       let le = body_falls w in
-      let lt = down_to_no_head E e left settled a c (reach a c d.0) d.0 d.1 in
+      let lt = down_to_no_head E e left in_post_order a c (reach a c d.0) d.0 d.1 in
       omega (arith, le, lt)
 
   -- an edge within a region to a place where its Rest begins, heads of loops inside it included
   pub within_region : (u n : ℕ) (r : Option ℕ) → E u n → IsInner E e u r → IsAround E e n r → left n < left u
-  within_region u n r d p q = elim (settled.edge u n (reach u n d) d) [
+  within_region u n r d p q = elim (in_post_order.edge u n (reach u n d) d) [
     | inl lt ↦ lt
     | inr m ↦ absurd (clash r p q (record { edge = d; met = m }))
   ]
@@ -51,7 +51,7 @@ module _ (E : ℕ → ℕ → Type 0) (e : ℕ) (reach : (a b : ℕ) → E a b �
       let to : Reaches E e exit.from = reach exit.from x exit.edge in
       elim (cases_eq exit.from h) [
         | inl same ↦ subst (λ (z : ℕ). left x < left z) same lt
-        | inr differ ↦ (let le = left_in_loop E e left settled h exit.from to exit.inside differ in omega (arith, lt, le))
+        | inr differ ↦ (let le = left_in_loop E e left in_post_order h exit.from to exit.inside differ in omega (arith, lt, le))
       ]
     where
       clash : (r : Option ℕ) → IsAround E e h r → IsAround E e x r → IsHead E e x → x ≢ h → InLoop E e x h → ⊥
@@ -59,7 +59,7 @@ module _ (E : ℕ → ℕ → Type 0) (e : ℕ) (reach : (a b : ℕ) → E a b �
       clash (Some l) p q k ne has = q.1 (one E e reach l x (head_reached E e reach x k) q.2 (p.3 x k ne has))
 
       lower : left x < left exit.from
-      lower = elim (settled.edge exit.from x (reach exit.from x exit.edge) exit.edge) [
+      lower = elim (in_post_order.edge exit.from x (reach exit.from x exit.edge) exit.edge) [
         | inl lt ↦ lt
         | inr m ↦
             let b : IsBackEdge E e exit.from x = record { edge = exit.edge; met = m } in
@@ -102,5 +102,5 @@ nearer {E} {Base} single u n k j d s (After {u = v} {k = i} m c t q) ne =
     omega (arith, q, at, below, ne)
 
 -- every reached cycle has a cut
-pub cycle_cut : {E : ℕ → ℕ → Type 0} (e : ℕ) (incoming left : ℕ → ℕ) → IsSettled E e left → (c : List ℕ) → IsCycle E c → (x : ℕ) → Contains c x → Reaches E e x → (h : ℕ) × Contains c h × IsCut E e incoming h
+pub cycle_cut : {E : ℕ → ℕ → Type 0} (e : ℕ) (incoming left : ℕ → ℕ) → IsPostOrder E e left → (c : List ℕ) → IsCycle E c → (x : ℕ) → Contains c x → Reaches E e x → (h : ℕ) × Contains c h × IsCut E e incoming h
 cycle_cut e incoming left s c i x cx w = let h = cycle_head e left s c i x cx w in (h.0, h.1, AtBase (Head h.2))

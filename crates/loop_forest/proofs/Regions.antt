@@ -2,7 +2,7 @@
 use Rattle.std.proofs.Common.{ℕ, ◌<◌, ◌≢◌, ◌⊎◌, inl, inr, refl, sym, arith, subst}
 use Rattle.std.proofs.lemmas.Bool.{cases_eq}
 use Rattle.flow_graph.specs.Walks.{Way, Stop, Leave, AnyNode, Reaches}
-use Rattle.loop_forest.specs.Loops.{IsSettled}
+use Rattle.loop_forest.specs.Loops.{IsPostOrder}
 use Rattle.loop_forest.specs.Loops.{IsHead, InLoop, AtHead, Inside, IsExit}
 use Rattle.flow_graph.proofs.Ways.{apart_or_from, way-weaken}
 use Rattle.loop_forest.proofs.LoopNesting.{loop_is_met}
@@ -22,7 +22,7 @@ pub stays_inside : (E : ℕ → ℕ → Type 0) (e h x y : ℕ) → (InLoop E e 
 stays_inside E e h x y known d no_exit i = elim known [ inl j ↦ j | inr n ↦ absurd (no_exit (record { from = x; inside = i; edge = d; outside = n })) ]
 
 -- each other node of a loop is left before its head
-pub left_in_loop : (E : ℕ → ℕ → Type 0) (e : ℕ) (left : ℕ → ℕ) → IsSettled E e left → (h x : ℕ) → Reaches E e x → InLoop E e h x → x ≢ h → left x < left h
+pub left_in_loop : (E : ℕ → ℕ → Type 0) (e : ℕ) (left : ℕ → ℕ) → IsPostOrder E e left → (h x : ℕ) → Reaches E e x → InLoop E e h x → x ≢ h → left x < left h
 left_in_loop E e left s h x r i n =
     elim (apart_or_from h (falling_walk E e left s Stop Stop r)) [
       | inl v ↦ absurd (v.1 ((loop_is_met e h x i).met (way-edges (λ a b t. t.0) (way-weaken (λ a t. t.1) v.0))))
@@ -34,7 +34,7 @@ left_in_loop E e left s h x r i n =
     below (Leave p d w) n = omega (arith, way_falls E left w, d.1)
 
 -- an edge to a node that is no head goes down
-pub down_to_no_head : (E : ℕ → ℕ → Type 0) (e : ℕ) (left : ℕ → ℕ) → IsSettled E e left → (u v : ℕ) → Reaches E e u → E u v → (IsHead E e v → ⊥) → left v < left u
+pub down_to_no_head : (E : ℕ → ℕ → Type 0) (e : ℕ) (left : ℕ → ℕ) → IsPostOrder E e left → (u v : ℕ) → Reaches E e u → E u v → (IsHead E e v → ⊥) → left v < left u
 down_to_no_head E e left s u v r d n = elim (s.edge u v r d) [ inl l ↦ l | inr m ↦ absurd (n (record { source = u; back = record { edge = d; met = m } })) ]
 
 -- a reached node other than the entry has an edge into it from a reached node

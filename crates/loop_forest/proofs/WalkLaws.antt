@@ -201,11 +201,11 @@ module _ (g : GraphOf) (f : ForestOf) (flow : IsFlow g) (is : IsForestOf g f) wh
         same_region (inner_of f m) (inner_of f n) (inner_within m j) (inner_within n i)
         (stays (HasEdge g) g.entry reach decides n m _ _ d (no_head m j ne) (no_exit m j ne) (inner_is m j) (inner_is n i));
     next = λ n m d ne. next_place n m (flow.source n m d) d (place_of f m) (is.places m (flow.within n m d)) ne;
-    falls = λ n m d ne. down_to_no_head (HasEdge g) g.entry (number_of f) is.settled n m (reach n m d) d (no_head m (flow.within n m d) ne);
+    falls = λ n m d ne. down_to_no_head (HasEdge g) g.entry (number_of f) is.in_post_order n m (reach n m d) d (no_head m (flow.within n m d) ne);
     placed = λ n m d. placed_in (inner_of f n) (inner_within n (flow.source n m d)) m (flow.within n m d) (placed (HasEdge g) g.entry reach decides n m _ d (inner_is n (flow.source n m d)));
-    falls_on = λ n m d q. within_region (HasEdge g) g.entry reach (number_of f) is.settled n m (option_map (head_of f) (inner_of f n)) d (inner_is n (flow.source n m d))
+    falls_on = λ n m d q. within_region (HasEdge g) g.entry reach (number_of f) is.in_post_order n m (option_map (head_of f) (inner_of f n)) d (inner_is n (flow.source n m d))
         (subst (λ (r : Option ℕ). IsAround (HasEdge g) g.entry m (option_map (head_of f) r)) q (is.regions m (flow.within n m d)));
-    falls_behind = λ l m i c q. after_loop (HasEdge g) g.entry reach (number_of f) is.settled (head_of f l) m (option_map (head_of f) (region_of f (head_of f l))) (head_is l i) (exit_is l m i c)
+    falls_behind = λ l m i c q. after_loop (HasEdge g) g.entry reach (number_of f) is.in_post_order (head_of f l) m (option_map (head_of f) (region_of f (head_of f l))) (head_is l i) (exit_is l m i c)
         (is.regions (head_of f l) (head_node l i))
         (subst (λ (r : Option ℕ). IsAround (HasEdge g) g.entry m (option_map (head_of f) r)) q (is.regions m (exit_below l m i c)));
     returned = λ n i e. same_region (inner_of f n) None (inner_within n i) (λ l q. absurd (cc))
@@ -227,7 +227,7 @@ module _ (g : GraphOf) (f : ForestOf) (flow : IsFlow g) (is : IsForestOf g f) wh
     cycles = λ c i.
         let first : ℕ = get_or c 0 0 in
         let below : first < length g.addrs = flow.within _ first i.closed in
-        let h = cycle_cut g.entry (incoming g) (number_of f) is.settled c i first (node_at c 0 i.some) (flow.reached first below) in
+        let h = cycle_cut g.entry (incoming g) (number_of f) is.in_post_order c i first (node_at c 0 i.some) (flow.reached first below) in
         let node = cycle_below c i h.0 h.1 in
         (h.0, h.1, place_once h.0 0 node h.2);
   }

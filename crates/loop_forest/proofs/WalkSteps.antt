@@ -11,7 +11,7 @@ use Rattle.std.proofs.lemmas.Bool.Decides.{Decides-eqb}
 use Rattle.std.proofs.Math.Seq.{get_or-append_seam}
 use Rattle.flow_graph.specs.Walks.{Way, Stop, Leave}
 use Rattle.loop_forest.specs.Cycles.{IsLinked, last_of}
-use Rattle.loop_forest.specs.Loops.{IsMetBefore}
+use Rattle.loop_forest.specs.Loops.{Dominates}
 use Rattle.flow_graph.specs.Graph.{GraphOf, HasEdge}
 use Rattle.loop_forest.specs.inner.Search.{FindsSources}
 use Rattle.loop_forest.specs.inner.SecondEntry.{EntersBeside}
@@ -86,7 +86,7 @@ found_beside g targets h N T f x c = let r = (f.sound x c).reaches in start_besi
     start_beside (Leave p e w) n = p
 
 -- where the entry was not found, every walk to u meets h
-pub met_where_none : (g : GraphOf) (e u h : ℕ) (N T : List ℕ) → FindsSources g (u ∷ []) h N T → (Contains N e → ⊥) → IsMetBefore (HasEdge g) e h u
+pub met_where_none : (g : GraphOf) (e u h : ℕ) (N T : List ℕ) → FindsSources g (u ∷ []) h N T → (Contains N e → ⊥) → Dominates (HasEdge g) e h u
 met_where_none g e u h N T f out = record {
   met = λ w. elim (cases_eq u h) [
     | inl s ↦ s

@@ -7,7 +7,7 @@ use Rattle.flow_graph.specs.declared.outside.Outside.TheVariants.{TwoEntries as 
 use Rattle.flow_graph.specs.declared.outside.FlowFault.{FlowFault}
 use Rattle.flow_graph.specs.declared.outside.FlowFault.TheVariants.{Outside, NoMemory}
 use Rattle.loop_forest.specs.Cycles.{ShowsTwoEntries, TwoEntries}
-use Rattle.loop_forest.specs.Loops.{IsHead, InLoop, IsExit, IsSettled}
+use Rattle.loop_forest.specs.Loops.{IsHead, InLoop, IsExit, IsPostOrder}
 use Rattle.loop_forest.specs.Regions.{IsAround, HasManyExits, loop_exit_limit}
 use Rattle.loop_forest.specs.Cuts.{StepsSinceCut, IsBase}
 use Rattle.loop_forest.specs.Addresses.{GoesTo, entry_at}
@@ -73,7 +73,7 @@ pub record IsForestOf (g : GraphOf) (f : ForestOf) : Type 0 where
   pub regions : (n : ℕ) → n < length g.addrs → IsAround (HasEdge g) g.entry n (option_map (head_of f) (region_of f n))
   pub within : (n l : ℕ) → n < length g.addrs → region_of f n ≡ Some l → l < length f.heads
   pub places : (n : ℕ) → n < length g.addrs → StepsSinceCut (HasEdge g) (IsBase (HasEdge g) g.entry (incoming g)) n (place_of f n)
-  pub settled : IsSettled (HasEdge g) g.entry (number_of f)
+  pub in_post_order : IsPostOrder (HasEdge g) g.entry (number_of f)
   pub different : (n m : ℕ) → n < length g.addrs → m < length g.addrs → number_of f n ≡ number_of f m → n ≡ m
   pub as_long : length f.places ≡ length g.addrs
 

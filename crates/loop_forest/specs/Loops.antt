@@ -3,13 +3,13 @@ use Rattle.std.specs.Prelude.{◌≡◌, ℕ, ◌<◌, ◌≢◌, ◌⊎◌}
 use Rattle.flow_graph.specs.Walks.{Way, Reaches}
 
 -- every walk from the entry e to u meets h
-pub record IsMetBefore (E : ℕ → ℕ → Type 0) (e h u : ℕ) : Type 0 where
+pub record Dominates (E : ℕ → ℕ → Type 0) (e h u : ℕ) : Type 0 where
   pub met : Way E (λ x. x ≢ h) e u → u ≡ h
 
 -- an edge to a node that every walk from the entry to the edge's source meets
 pub record IsBackEdge (E : ℕ → ℕ → Type 0) (e u h : ℕ) : Type 0 where
   pub edge : E u h
-  pub met : IsMetBefore E e h u
+  pub met : Dominates E e h u
 
 pub record IsHead (E : ℕ → ℕ → Type 0) (e h : ℕ) : Type 0 where
   pub source : ℕ
@@ -33,5 +33,5 @@ pub record IsExit (E : ℕ → ℕ → Type 0) (e h v : ℕ) : Type 0 where
   pub outside : InLoop E e h v → ⊥
 
 -- each edge out of a reached node goes down, or to a node that is met before
-pub record IsSettled (E : ℕ → ℕ → Type 0) (e : ℕ) (left : ℕ → ℕ) : Type 0 where
-  pub edge : (u v : ℕ) → Reaches E e u → E u v → (left v < left u) ⊎ IsMetBefore E e v u
+pub record IsPostOrder (E : ℕ → ℕ → Type 0) (e : ℕ) (left : ℕ → ℕ) : Type 0 where
+  pub edge : (u v : ℕ) → Reaches E e u → E u v → (left v < left u) ⊎ Dominates E e v u

@@ -1,7 +1,7 @@
 //! All loops of a graph.
 ghost use Rattle.std.specs.Prelude.{◌<◌, IfOk};
 ghost use Rattle.flow_graph.specs.Graph.{HasEdge};
-ghost use Rattle.loop_forest.specs.Loops.{IsSettled};
+ghost use Rattle.loop_forest.specs.Loops.{IsPostOrder};
 ghost use Rattle.loop_forest.specs.inner.DepthFirst.{mark_of, number_of};
 ghost use Rattle.loop_forest.specs.inner.Found.{IsFound};
 
@@ -32,7 +32,7 @@ pub enum Found {
 
 /// All loops, or the least head whose loop has too many exits.
 pub fn find_all(alloc: Global, g: &Graph, marks: &[Mark]) -> Result<Found, NoMemory>
-    requires settled { IsSettled (HasEdge g.now) g.now.entry (λ x.
+    requires in_post_order { IsPostOrder (HasEdge g.now) g.now.entry (λ x.
         number_of (mark_of marks.now x)) }
     ensures { IfOk result (IsFound g.now) }
 {

@@ -2,7 +2,7 @@
 ghost use Rattle.std.specs.Prelude.{◌≡◌, ℕ, ◌<◌, ◌↔◌, IfOk, IfSome, IfNone, OnOk, IsTrue, length};
 ghost use Rattle.std.specs.List.{Contains};
 ghost use Rattle.flow_graph.specs.Graph.{HasEdge};
-ghost use Rattle.loop_forest.specs.Loops.{IsSettled};
+ghost use Rattle.loop_forest.specs.Loops.{IsPostOrder};
 ghost use Rattle.loop_forest.specs.Loops.{IsHead};
 ghost use Rattle.loop_forest.specs.inner.LoopOf.{AreBackTo, AreExits, IsIn, IsLoopOf, NotesExits};
 ghost use Rattle.loop_forest.specs.inner.DepthFirst.{mark_of, number_of};
@@ -27,7 +27,7 @@ pub fn number_at(marks: &[Mark], u: u32) -> usize
 /// The sources of the back edges to h: of the edges that don't go down.
 fn back_sources(alloc: Global, g: &Graph, marks: &[Mark], h: u32) -> Result<Vec<u32>, NoMemory>
     requires node { h < length g.now.addrs }
-    requires settled { IsSettled (HasEdge g.now) g.now.entry (λ x.
+    requires in_post_order { IsPostOrder (HasEdge g.now) g.now.entry (λ x.
         number_of (mark_of marks.now x)) }
     ensures { IfOk result (λ v. AreBackTo g.now g.now.entry h v.items) }
 {
@@ -51,7 +51,7 @@ pub struct Loop {
 /// The loop of h, where h is a head.
 pub fn loop_of(alloc: Global, g: &Graph, marks: &[Mark], h: u32) -> Result<Option<Loop>, NoMemory>
     requires node { h < length g.now.addrs }
-    requires settled { IsSettled (HasEdge g.now) g.now.entry (λ x.
+    requires in_post_order { IsPostOrder (HasEdge g.now) g.now.entry (λ x.
         number_of (mark_of marks.now x)) }
     ensures none { IfOk result (λ o. IfNone o (IsHead (HasEdge g.now) g.now.entry h → ⊥)) }
     ensures some { IfOk result (λ o. IfSome o (λ l. IsLoopOf g.now g.now.entry h l.head l.nodes)) }

@@ -2,7 +2,7 @@
 ghost use Rattle.std.specs.Prelude.{◌<◌, IfOk, IfSome, IfNone, length, slice_index, ◌∷◌, []};
 ghost use Rattle.std.specs.List.{Contains};
 ghost use Rattle.flow_graph.specs.Graph.{HasEdge};
-ghost use Rattle.loop_forest.specs.Loops.{IsMetBefore};
+ghost use Rattle.loop_forest.specs.Loops.{Dominates};
 ghost use Rattle.loop_forest.specs.inner.Search.{FindsSources};
 ghost use Rattle.loop_forest.specs.inner.SecondEntry.{EntersBeside};
 
@@ -51,7 +51,7 @@ pub fn second_entry(
 ) -> Result<Option<Vec<u32>>, NoMemory>
     requires u { u < length g.now.addrs }
     requires on { Contains cycle.now u }
-    ensures none { IfOk result (λ o. IfNone o (IsMetBefore (HasEdge g.now) entry h u)) }
+    ensures none { IfOk result (λ o. IfNone o (Dominates (HasEdge g.now) entry h u)) }
     ensures some { IfOk result (λ o. IfSome o (λ w. EntersBeside g.now cycle.now entry h w.items)) }
 {
     let search = reaching_without(alloc, g, &[u], h)?;

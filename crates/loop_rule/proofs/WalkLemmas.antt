@@ -52,7 +52,7 @@ module _ {J : Type 0} (j : Judge J) where
   module _ (w : Citing) where
     -- ---- walks
 
-    -- a fault for want of memory
+    -- a fault for lack of memory
     pub walks_no_memory : (leaves : List LeafTree) (place : ℕ) (a b : J) (r : Result ℕ RuleFault) → IsErrAnd r (λ y. y ≡ NoMemory) → Went j leaves a b → Walks j w leaves place a b r
     walks_no_memory leaves place a b (Ok n) is went = absurd is
     walks_no_memory leaves place a b (Err e) is went = record { went = went; answers = subst (λ x. Answers j w (j.closing a).theorem leaves place (j.way a) (j.way b) (Err x)) (sym is) tt }

@@ -84,7 +84,7 @@ pub enum CheckAnswer {
     ElfOverLimit,
     /// The proof file has more bytes than are read.
     ProofOverLimit,
-    /// The verdict on the two. It is never want of memory.
+    /// The verdict on the two. It is never `NoMemory`.
     Judged(Verdict),
 }
 
@@ -185,7 +185,7 @@ pub enum MigrateAnswer {
     ElfOverLimit,
     /// The proof file has more bytes than are read.
     ProofOverLimit,
-    /// The verdict that refuses the two. It is never want of memory.
+    /// The verdict that refuses the two. It is never `NoMemory`.
     Refused(Verdict),
     /// A text of version 2 was written, with that many functions and proof lines.
     Migrated { functions: u64, lines: u64 },

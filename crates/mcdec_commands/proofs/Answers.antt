@@ -28,7 +28,7 @@ use Rattle.mcdec_words.specs.CommandReading.{Holds, HoldsArgs, value_in}
 use Rattle.mcdec_commands.specs.Memory.{placed, ranges_in}
 use Rattle.mcdec_commands.specs.EvalAnswer.{proof_limit, arguments_given, memories_given, EvalGives}
 use Rattle.mcdec_commands.specs.inner.Search.{Finds, GroupGives, HasText, first_named}
-use Rattle.mcdec_commands.specs.Held.{HoldsWith}
+use Rattle.mcdec_commands.specs.Held.{HasFile}
 
 -- ---- arguments
 
@@ -126,12 +126,12 @@ found-fits text name g f =
 -- ---- files
 
 -- what is so of the file that a name holds is so of it as far as it is told
-pub held-with : (told : Option Contents) (name file : List ℕ) (P : List ℕ → Type 0) → IfSome told (λ files. files name ≡ Some file) → P file → HoldsWith told name P
+pub held-with : (told : Option Contents) (name file : List ℕ) (P : List ℕ → Type 0) → IfSome told (λ files. files name ≡ Some file) → P file → HasFile told name P
 held-with None name file P h is = tt
 held-with (Some files) name file P h is = (file, h, is)
 
 -- a name of which it is told that it holds such a file
-pub held-such : (told : Option Contents) (name : List ℕ) (P : List ℕ → Type 0) → IfSome told (λ files. IsSomeAnd (files name) P) → HoldsWith told name P
+pub held-such : (told : Option Contents) (name : List ℕ) (P : List ℕ → Type 0) → IfSome told (λ files. IsSomeAnd (files name) P) → HasFile told name P
 held-such None name P h = tt
 held-such (Some files) name P h = at (files name) refl h
   where

@@ -3,7 +3,7 @@ use Rattle.std.proofs.Common.{◌≡◌, ◌≢◌, ℕ, ◌<◌, ◌≤◌, tru
 use Rattle.std.specs.Prelude.{IfSome, IsSomeAnd}
 use Rattle.mc_shelf.specs.Shelf.{Contents}
 use Rattle.elf_image.specs.Fault.{fault_of}
-use Rattle.proof_text.specs.inner.PulledRows.{WhereHeld}
+use Rattle.proof_text.specs.inner.PulledRows.{IfFile}
 use Rattle.proof_text.proofs.PullLemmas.{told_so}
 use Rattle.checker.specs.Pulled.{IfVerdict, is_outside}
 use Rattle.checker.specs.declared.verdict.Pulled.{Pulled}
@@ -18,7 +18,7 @@ use Rattle.mcdec_answers.specs.declared.answer.Answer.{Answer}
 use Rattle.mcdec_answers.specs.declared.answer.Answer.TheVariants as answer
 use Rattle.mcdec_words.specs.Command.{Check, Words}
 use Rattle.mcdec_commands.specs.EvalAnswer.{proof_limit}
-use Rattle.mcdec_commands.specs.Held.{HoldsWith}
+use Rattle.mcdec_commands.specs.Held.{HasFile}
 use Rattle.mcdec_commands.specs.RunAnswer.{IsLoaded, elf_limit}
 use Rattle.mcdec_commands.specs.CheckAnswer.{CheckGives, HoldsText}
 use Rattle.mcdec_commands.specs.Answer.{Gives}
@@ -32,7 +32,7 @@ two-files elf proof e = cc
 -- The proof file was measured, and of so many of its bytes something is said.
 module _ (proof file : List ℕ) (size : ℕ) (loaded : IsLoaded file) (short : size ≤ proof_limit) where
   -- so the name holds a text within the limit of which it is said
-  measured-text : (told : Option Contents) (P : List ℕ → Type 0) → IfSome told (λ files. IsSomeAnd (files proof) (λ text. size ≡ length text)) → WhereHeld told proof (λ text. P (take size text))
+  measured-text : (told : Option Contents) (P : List ℕ → Type 0) → IfSome told (λ files. IsSomeAnd (files proof) (λ text. size ≡ length text)) → IfFile told proof (λ text. P (take size text))
       → IfSome told (λ files. IsLoaded file × HoldsText (Some files) proof P)
   measured-text None P measured h = tt
   measured-text (Some files) P measured h = by (files proof) refl measured h
@@ -46,7 +46,7 @@ module _ (proof file : List ℕ) (size : ℕ) (loaded : IsLoaded file) (short : 
       )
 
   -- what is said of the ELF file alone
-  measured-file : (told : Option Contents) (P : Type 0) → IfSome told (λ files. IsSomeAnd (files proof) (λ text. size ≡ length text)) → WhereHeld told proof (λ text. P)
+  measured-file : (told : Option Contents) (P : Type 0) → IfSome told (λ files. IsSomeAnd (files proof) (λ text. size ≡ length text)) → IfFile told proof (λ text. P)
       → IfSome told (λ files. (length file ≤ elf_limit) × P)
   measured-file None P measured h = tt
   measured-file (Some files) P measured h = by (files proof) measured h
@@ -57,7 +57,7 @@ module _ (proof file : List ℕ) (size : ℕ) (loaded : IsLoaded file) (short : 
 
   -- what a check of it comes to
   module _ (told : Option Contents) (rose : Type 0) (measured : IfSome told (λ files. IsSomeAnd (files proof) (λ text. size ≡ length text))) where
-    verdict-gives : (v : Verdict) → WhereHeld told proof (λ text. SaysOf file (take size text) v) → ImageGives told proof file rose (answer_of v)
+    verdict-gives : (v : Verdict) → IfFile told proof (λ text. SaysOf file (take size text) v) → ImageGives told proof file rose (answer_of v)
     verdict-gives (verdict.Accepted functions lines) h = measured-text told (λ (t : List ℕ). SaysOf file t (verdict.Accepted functions lines)) measured h
     verdict-gives (verdict.BadText line) h = measured-text told (λ (t : List ℕ). SaysOf file t (verdict.BadText line)) measured h
     verdict-gives (verdict.BadDef group def) h = measured-text told (λ (t : List ℕ). SaysOf file t (verdict.BadDef group def)) measured h
@@ -66,7 +66,7 @@ module _ (proof file : List ℕ) (size : ℕ) (loaded : IsLoaded file) (short : 
     verdict-gives (verdict.BadElf why) h = measured-file told (fault_of file ≡ Some why) measured (told_so told proof _ _ (λ files text is held says. named-fault file (take size text) why says) h)
     verdict-gives verdict.NoMemory h = tt
 
-    pub pulled-gives : (p : Pulled) → IfVerdict p (λ v. WhereHeld told proof (λ text. SaysOf file (take size text) v)) → (is_outside p ≡ true → rose) → ImageGives told proof file rose (answer_to p)
+    pub pulled-gives : (p : Pulled) → IfVerdict p (λ v. IfFile told proof (λ text. SaysOf file (take size text) v)) → (is_outside p ≡ true → rose) → ImageGives told proof file rose (answer_to p)
     pulled-gives (pulled.Verdict v) h failed = verdict-gives v h
     pulled-gives pulled.Fault h failed = failed refl
 
@@ -77,7 +77,7 @@ long-gives (Some files) proof file rose loaded h = (loaded, held-such (Some file
 
 -- what the command comes to, where it is told what the names hold
 check-gives : (told : Option Contents) (elf proof file : List ℕ) (a : CheckAnswer) → IfSome told (λ files. files elf ≡ Some file) → IfSome told (λ files. CheckGives (Some files) proof file a)
-    → HoldsWith told elf (λ f. CheckGives told proof f a)
+    → HasFile told elf (λ f. CheckGives told proof f a)
 check-gives None elf proof file a held h = tt
 check-gives (Some files) elf proof file a held h = (file, held, h)
 

@@ -53,7 +53,7 @@ use Rattle.def_laws.proofs.OneResult.{no_result, one_first_bad, one_result}
 use Rattle.fun_laws.specs.Limits.{cert_texts}
 use Rattle.fun_laws.specs.Spelling.{CertTree}
 use Rattle.fun_laws.proofs.Whole.{certs-once}
-use Rattle.mcdec_commands.specs.Held.{HoldsWith}
+use Rattle.mcdec_commands.specs.Held.{HasFile}
 use Rattle.mcdec_commands.specs.SimplifyAnswer.{SimplifyGives, without_steps}
 use Rattle.mcdec_commands.specs.LawsAnswer.{IsCertText, LawsGives, TextsGive, cert_limit, step_line}
 use Rattle.mcdec_words.specs.CommandReading.{operands_of}
@@ -539,7 +539,7 @@ CertCase files cert file a = (text : List ℕ) × (files cert ≡ Some text) × 
 abbrev LawsCase : Contents → List ℕ → List ℕ → LawsAnswer → Type 0
 LawsCase files cert file a = ((proof_limit < length file) × (a ≡ la.ProofOverLimit)) ⊎ ((length file ≤ proof_limit) × CertCase files cert file a)
 
-held-case : (files : Contents) (cert file : List ℕ) (a : LawsAnswer) → length file ≤ proof_limit → HoldsWith (Some files) cert (λ text. (length text ≤ cert_limit) × TextsGive file text a)
+held-case : (files : Contents) (cert file : List ℕ) (a : LawsAnswer) → length file ≤ proof_limit → HasFile (Some files) cert (λ text. (length text ≤ cert_limit) × TextsGive file text a)
     → LawsCase files cert file a
 held-case files cert file a small (text, held, (within, h)) = inr (small, (text, held, inr (within, texts-case file text a h)))
 
@@ -675,7 +675,7 @@ command-alike files (Migrate elf proof out) a b (x, ax, (p, held, h)) (y, by, (q
 abbrev WordsCase : Contents → List (List ℕ) → Answer → Type 0
 WordsCase files ws a = (IsNoCommand ws × (a ≡ answer.NotACommand)) ⊎ ((c : Command) × Words ws c × CommandGives files c a)
 
--- an answer is that of a command or says that there is none, but for faults of the outside and want of memory
+-- an answer is that of a command or says that there is none, but for faults of the outside and lack of memory
 words-case : (files : Contents) (ws : List (List ℕ)) (rose wrote : Type 0) (a : Answer) → Gives (Some files) ws rose wrote a → WordsCase files ws a ⊎ IsHindered (status a)
 words-case files ws rose wrote answer.NotACommand h = inl (inl (h, refl))
 words-case files ws rose wrote answer.ReadFault h = inr (inl refl)
@@ -700,7 +700,7 @@ words-alike files ws a b (inr h) (inr k) = command-alike files k.0 a b (subst (�
 
 -- ---- the top call
 
--- an answer that is like the given one is printed, or one of the two statuses is that of a fault or of want of memory
+-- an answer that is like the given one is printed, or one of the two statuses is that of a fault or of lack of memory
 abbrev pub ComesBut : Answer → ℕ → Option (List ℕ) → Option (List ℕ) → Type 0
 ComesBut a result old new = ((b : Answer) × Like a b × IsPrinted b result old new) ⊎ (IsHindered (status a) ⊎ IsHindered result)
 

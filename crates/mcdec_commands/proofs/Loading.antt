@@ -10,7 +10,7 @@ use Rattle.mcdec_answers.specs.declared.answer.Answer.{Answer}
 use Rattle.mcdec_answers.specs.declared.answer.Answer.TheVariants as answer
 use Rattle.mcdec_commands.specs.declared.load.LoadFault.{LoadFault}
 use Rattle.mcdec_commands.specs.declared.load.LoadFault.TheVariants as load
-use Rattle.mcdec_commands.specs.Held.{HoldsWith}
+use Rattle.mcdec_commands.specs.Held.{HasFile}
 use Rattle.mcdec_commands.specs.RunAnswer.{elf_limit}
 use Rattle.mcdec_commands.specs.inner.Loading.{IsNotLoaded, IsNotRead, not_loaded, not_read}
 use Rattle.mcdec_commands.proofs.Answers.{held-such}
@@ -25,13 +25,13 @@ module _ (told : Option Contents) (name : List ℕ) (rose : Type 0) where
 
   module _ (P : Answer → Type 0) (failed : rose → P answer.ReadFault) (none : P answer.NoMemory) (over_limit : Answer) where
     -- what is so of the answers to that
-    pub unread-so : (limit : ℕ) → (HoldsWith told name (λ file. limit < length file) → P over_limit) → (e : ReadEnd) → IsNotRead told name limit rose e → (a : Answer) → a ≡ not_read over_limit e → P a
+    pub unread-so : (limit : ℕ) → (HasFile told name (λ file. limit < length file) → P over_limit) → (e : ReadEnd) → IsNotRead told name limit rose e → (a : Answer) → a ≡ not_read over_limit e → P a
     unread-so limit long end.Fault h a is = subst P (sym is) (failed h)
     unread-so limit long end.TooLong h a is = subst P (sym is) (long h)
     unread-so limit long end.NoMemory h a is = subst P (sym is) none
 
-    pub unloaded-so : (unreadable : ElfFault → Answer) → (HoldsWith told name (λ file. elf_limit < length file) → P over_limit)
-        → ((why : ElfFault) → HoldsWith told name (λ file. (length file ≤ elf_limit) × (fault_of file ≡ Some why)) → P (unreadable why))
+    pub unloaded-so : (unreadable : ElfFault → Answer) → (HasFile told name (λ file. elf_limit < length file) → P over_limit)
+        → ((why : ElfFault) → HasFile told name (λ file. (length file ≤ elf_limit) × (fault_of file ≡ Some why)) → P (unreadable why))
         → (fault : LoadFault) → IsNotLoaded told name rose fault → (a : Answer) → a ≡ not_loaded over_limit unreadable fault → P a
     unloaded-so unreadable long bad (load.Unread e) h a is = unread-so elf_limit long e h a is
     unloaded-so unreadable long bad (load.Unreadable why) h a is = subst P (sym is) (bad why h)

@@ -56,7 +56,7 @@ no-migrate f p o n k e = cc
 same-numbers : (m j n k : ℕ) → SelfTest m j ≡ SelfTest n k → (m ≡ n) × (j ≡ k)
 same-numbers m j n k e = (cc, cc)
 
--- what is given to the words of `selftest` is an outcome of their program, or want of memory
+-- what is given to the words of `selftest` is an outcome of their program, or lack of memory
 pub answers : (told : Option Contents) (ws : List (List ℕ)) (rose wrote : Type 0) (n k : ℕ) → Words ws (SelfTest n k) → (a : Answer) → Gives told ws rose wrote a
     → ((x : SelfTestAnswer) × (a ≡ answer.SelfTest x) × SelfTestGives n k x) ⊎ (a ≡ answer.NoMemory)
 answers told ws rose wrote n k w answer.NotACommand h = absurd (h (SelfTest n k) w)

@@ -5,7 +5,7 @@ use Rattle.mcdec_answers.specs.declared.answer.Answer.{Answer}
 use Rattle.mcdec_answers.specs.declared.answer.Answer.TheVariants as answer
 use Rattle.mcdec_words.specs.Command.{Command, Eval, Run, Check, Decompile, SelfTest, Simplify, Laws, Smt, Migrate, Arg, Words, IsNoCommand, inputs_of, output_of}
 use Rattle.mcdec_words.specs.declared.command.Form.{Form}
-use Rattle.mcdec_commands.specs.Held.{HoldsWith}
+use Rattle.mcdec_commands.specs.Held.{HasFile}
 use Rattle.mcdec_commands.specs.EvalAnswer.{EvalGives}
 use Rattle.mcdec_commands.specs.CheckAnswer.{CheckGives}
 use Rattle.mcdec_commands.specs.DecompileAnswer.{DecompileGives, without_walks}
@@ -33,21 +33,21 @@ Gives told ws rose wrote answer.WriteFault = (c : Command) × Words ws c × HasO
 Gives told ws rose wrote answer.NoMemory = Unit {0}
 Gives told ws rose wrote (answer.Eval a) =
     (proof name : List ℕ) × (turns : ℕ) × (args : List Arg) × Words ws (Eval proof name turns args)
-    × HoldsWith told proof (λ file. EvalGives file name turns args a)
+    × HasFile told proof (λ file. EvalGives file name turns args a)
 Gives told ws rose wrote (answer.Run a) =
     (elf start : List ℕ) × (until steps : ℕ) × (args : List Arg) × Words ws (Run elf start until steps args)
-    × HoldsWith told elf (λ file. RunGives file start until steps args a)
-Gives told ws rose wrote (answer.Check a) = (elf proof : List ℕ) × Words ws (Check elf proof) × HoldsWith told elf (λ file. CheckGives told proof file a)
+    × HasFile told elf (λ file. RunGives file start until steps args a)
+Gives told ws rose wrote (answer.Check a) = (elf proof : List ℕ) × Words ws (Check elf proof) × HasFile told elf (λ file. CheckGives told proof file a)
 Gives told ws rose wrote (answer.Decompile a) =
-    (form : Form) × (elf out : List ℕ) × (names : List (List ℕ)) × Words ws (Decompile form elf out names) × HoldsWith told elf (λ file. DecompileGives form file names a)
+    (form : Form) × (elf out : List ℕ) × (names : List (List ℕ)) × Words ws (Decompile form elf out names) × HasFile told elf (λ file. DecompileGives form file names a)
 Gives told ws rose wrote (answer.SelfTest a) = (number size : ℕ) × Words ws (SelfTest number size) × SelfTestGives number size a
 Gives told ws rose wrote (answer.Simplify a) =
-    (proof name out : List ℕ) × Words ws (Simplify proof name out) × HoldsWith told proof (λ file. SimplifyGives file name a)
-Gives told ws rose wrote (answer.Laws a) = (proof cert : List ℕ) × Words ws (Laws proof cert) × HoldsWith told proof (λ file. LawsGives told cert file a)
+    (proof name out : List ℕ) × Words ws (Simplify proof name out) × HasFile told proof (λ file. SimplifyGives file name a)
+Gives told ws rose wrote (answer.Laws a) = (proof cert : List ℕ) × Words ws (Laws proof cert) × HasFile told proof (λ file. LawsGives told cert file a)
 Gives told ws rose wrote (answer.Smt a) =
-    (proof name : List ℕ) × (def : ℕ) × (out : List ℕ) × Words ws (Smt proof name def out) × HoldsWith told proof (λ file. SmtGives file name def a)
+    (proof name : List ℕ) × (def : ℕ) × (out : List ℕ) × Words ws (Smt proof name def out) × HasFile told proof (λ file. SmtGives file name def a)
 Gives told ws rose wrote (answer.Migrate a) =
-    (elf proof out : List ℕ) × Words ws (Migrate elf proof out) × HoldsWith told elf (λ file. MigrateGives told proof file a)
+    (elf proof out : List ℕ) × Words ws (Migrate elf proof out) × HasFile told elf (λ file. MigrateGives told proof file a)
 
 -- ---- the contract of the top call
 
@@ -62,7 +62,7 @@ determined a = a
 abbrev pub Like : Answer → Answer → Type 0
 Like a b = determined a ≡ determined b
 
--- the status of a fault of the outside or of want of memory
+-- the status of a fault of the outside or of lack of memory
 abbrev pub IsHindered : ℕ → Type 0
 IsHindered status = (status ≡ 4) ⊎ ((status ≡ 5) ⊎ (status ≡ 6))
 

@@ -13,14 +13,14 @@ use Rattle.checker.specs.declared.verdict.Verdict.TheVariants as verdict
 use Rattle.text_versions.specs.Versions.{SaysOf}
 use Rattle.mcdec_answers.specs.declared.answer.CheckAnswer.{CheckAnswer}
 use Rattle.mcdec_answers.specs.declared.answer.CheckAnswer.TheVariants as answer
-use Rattle.mcdec_commands.specs.Held.{HoldsWith}
+use Rattle.mcdec_commands.specs.Held.{HasFile}
 use Rattle.mcdec_commands.specs.Listed.{lines_of, without_proofs}
 use Rattle.mcdec_commands.specs.EvalAnswer.{proof_limit}
 use Rattle.mcdec_commands.specs.RunAnswer.{elf_limit, IsLoaded}
 
 -- the name holds a proof file within the limit with P
 abbrev pub HoldsText : Option Contents → List ℕ → (List ℕ → Type 0) → Type 0
-HoldsText told proof P = HoldsWith told proof (λ text. (length text ≤ proof_limit) × P text)
+HoldsText told proof P = HasFile told proof (λ text. (length text ≤ proof_limit) × P text)
 
 -- what `check` comes to by a verdict
 abbrev pub VerdictGives : Option Contents → (proof file : List ℕ) → Verdict → Type 0
@@ -31,7 +31,7 @@ VerdictGives told proof file v = IsLoaded file × HoldsText told proof (λ text.
 -- What `check` comes to, where the ELF file has these bytes. The proof file is asked for where that can be read.
 abbrev pub CheckGives : Option Contents → (proof file : List ℕ) → CheckAnswer → Type 0
 CheckGives told proof file answer.ElfOverLimit = elf_limit < length file
-CheckGives told proof file answer.ProofOverLimit = IsLoaded file × HoldsWith told proof (λ text. proof_limit < length text)
+CheckGives told proof file answer.ProofOverLimit = IsLoaded file × HasFile told proof (λ text. proof_limit < length text)
 CheckGives told proof file (answer.Judged v) = VerdictGives told proof file v
 
 -- The one name holds an ELF file, the other a text of that version. Without the lines of proofs and of their tables this is the

@@ -24,7 +24,7 @@ use Rattle.fun_laws.specs.Limits.{IsCert, cert_texts}
 use Rattle.fun_laws.specs.Spelling.{CertTree, cert_text}
 use Rattle.mcdec_answers.specs.declared.answer.LawsAnswer.{LawsAnswer}
 use Rattle.mcdec_answers.specs.declared.answer.LawsAnswer.TheVariants as answer
-use Rattle.mcdec_commands.specs.Held.{HoldsWith}
+use Rattle.mcdec_commands.specs.Held.{HasFile}
 use Rattle.mcdec_commands.specs.EvalAnswer.{HasBadDef, HasBadLine, IsNamed, proof_limit}
 
 -- the most bytes of a certificate's file that are read
@@ -63,8 +63,8 @@ TextsGive file text (answer.Accepted steps) =
 -- What `laws` comes to, where the proof file has these bytes. The certificate's is asked for where they are within the limit.
 abbrev pub LawsGives : Option Contents → (cert file : List ℕ) → LawsAnswer → Type 0
 LawsGives told cert file answer.ProofOverLimit = proof_limit < length file
-LawsGives told cert file answer.CertOverLimit = (length file ≤ proof_limit) × HoldsWith told cert (λ text. cert_limit < length text)
-LawsGives told cert file a = (length file ≤ proof_limit) × HoldsWith told cert (λ text. (length text ≤ cert_limit) × TextsGive file text a)
+LawsGives told cert file answer.CertOverLimit = (length file ≤ proof_limit) × HasFile told cert (λ text. cert_limit < length text)
+LawsGives told cert file a = (length file ≤ proof_limit) × HasFile told cert (λ text. (length text ≤ cert_limit) × TextsGive file text a)
 
 -- The one name holds a proof file, the other a certificate of its first group of that name. What is claimed of this group's function, of
 -- whatever ELF file, is claimed of the one with the certificate's definitions, in each state of the machine.

@@ -10,7 +10,7 @@ use Rattle.mcdec_answers.specs.declared.answer.Answer.{Answer}
 use Rattle.mcdec_answers.specs.declared.answer.Answer.TheVariants.{Migrate}
 use Rattle.mcdec_answers.specs.declared.answer.MigrateAnswer.{MigrateAnswer}
 use Rattle.mcdec_answers.specs.declared.answer.MigrateAnswer.TheVariants as answer
-use Rattle.mcdec_commands.specs.Held.{HoldsWith}
+use Rattle.mcdec_commands.specs.Held.{HasFile}
 use Rattle.mcdec_commands.specs.CheckAnswer.{HoldsText}
 use Rattle.mcdec_commands.specs.EvalAnswer.{proof_limit}
 use Rattle.mcdec_commands.specs.RunAnswer.{elf_limit, IsLoaded}
@@ -26,7 +26,7 @@ RefusalGives told proof file v = IsLoaded file × HoldsText told proof (λ text.
 -- version 1, is accepted, its functions and lines are counted.
 abbrev pub MigrateGives : Option Contents → (proof file : List ℕ) → MigrateAnswer → Type 0
 MigrateGives told proof file answer.ElfOverLimit = elf_limit < length file
-MigrateGives told proof file answer.ProofOverLimit = IsLoaded file × HoldsWith told proof (λ text. proof_limit < length text)
+MigrateGives told proof file answer.ProofOverLimit = IsLoaded file × HasFile told proof (λ text. proof_limit < length text)
 MigrateGives told proof file (answer.Refused v) = RefusalGives told proof file v
 MigrateGives told proof file (answer.Migrated functions lines) = IsLoaded file × HoldsText told proof (λ text. Says file text (verdict.Accepted functions lines))
 

@@ -42,7 +42,7 @@ pub fn run_words<S: Shelf, O: Sink>(
         (O.written out.old) (O.written out.new) }
 
     // An answer that the words and the files give comes, or one that differs only in what they
-    // leave open, but for faults of the outside and want of memory.
+    // leave open, but for faults of the outside and lack of memory.
     ensures exact { IfSome (S.contents shelf.old) (λ files.
         (a : AnswerOf)
         → Gives (Some files) (texts words.now)

@@ -12,7 +12,7 @@
 //!
 //! The promises to a user are the clauses of `run_words`: `lines`, that the answer is one which the
 //! definitions give to words and files; `exact`, that it comes but for faults of the outside and
-//! want of memory; `headline`, that status 0 of `check` makes the functions right of the ELF file;
+//! out of memory; `headline`, that status 0 of `check` makes the functions right of the ELF file;
 //! `rewritten`, that status 0 of `laws` carries what is claimed of a function over to the rewritten
 //! one; `written` and `kept`, what names hold afterwards. `law_of_written_texts` says that what
 //! `decompile`, `link` and `split` write is accepted.

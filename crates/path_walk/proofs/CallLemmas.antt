@@ -21,7 +21,7 @@ use Rattle.code_parts.specs.Graph.{HasPart, IsPart}
 use Rattle.path_walk.specs.inner.Histories.{exit_place, pc_of}
 use Rattle.code_parts.specs.Flows.{group_over}
 use Rattle.path_walk.specs.inner.Acts.{Exited, GoesOn, LeftBy, call_mems, call_words, exit_standing, gives_over, numbered, results_at}
-use Rattle.path_walk.specs.inner.Writers.{FromAs, IsReady, WriterTree, Setting, CitedTree, StepsBy, Stood, group_in, past, standing_at, stating}
+use Rattle.path_walk.specs.inner.Writers.{FromAs, IsReady, WriterTree, Context, CitedTree, StepsBy, Stood, group_in, past, standing_at, stating}
 use Rattle.path_walk.proofs.Calls as calls
 use Rattle.path_walk.proofs.Calls.{exit-fresh}
 use Rattle.path_walk.proofs.WriterLemmas.{Ends, ends_restated, ends_state, from_on, grown_join, restated-version}
@@ -42,7 +42,7 @@ results_are f g Ret words mems regs rise =
     (λ i. variables_after words mems (count i) f.mems)
     ∙ (λ i. with_pc (Var words) (variables_after (next i) mems (length f.regs) f.mems)) ∙ ap (with_pc (Var words)) (current-fresh f (suc words) mems rise)
 
-module _ (f : Flow) (ranges : List Range) (s : Setting f ranges) where
+module _ (f : Flow) (ranges : List Range) (s : Context f ranges) where
   abbrev g : GroupTree
   g = group_over f s.name ranges s.defs
 

@@ -28,7 +28,7 @@ use Rattle.path_walk.specs.Item.{AreClosing, IsWalkedIn}
 use Rattle.path_walk.specs.inner.Acts.{results_at}
 use Rattle.code_parts.specs.Flows.{group_over}
 use Rattle.path_walk.specs.inner.Lines.{ArmsLead, forgets, stated}
-use Rattle.path_walk.specs.inner.Writers.{IsFineWriter, Leads, WriterTree, Setting, CitedTree, StepsBy, group_in, past}
+use Rattle.path_walk.specs.inner.Writers.{IsFineWriter, Leads, WriterTree, Context, CitedTree, StepsBy, group_in, past}
 use Rattle.code_parts.proofs.BuiltBodies.{part_head, part_loop, part_node}
 use Rattle.path_walk.proofs.ForgottenLines.{all_stated, closing-forgets, forgets-fine, next-after}
 use Rattle.path_walk.proofs.LineTexts.{all-join}
@@ -110,7 +110,7 @@ module _ (version : Known) (f : Flow) (fits : IsVersionFor f version) (p : Part)
   cited_all g h (l ∷ ls) [] a = absurd a
   cited_all g h (l ∷ ls) (j ∷ js) a = (subst (IsLedTo g (part_def f p) l) (sym a.0.1) a.0.2, cited_all g h ls js a.1)
 
-  by_setting : (s : Setting f ranges) → s.before ≡ old → slice_get s.defs (f.number p) ≡ Some (part_def f p) → AreClosed (after_lines old) (part_body f p) → CallsBelow s.bound (part_body f p) →
+  by_setting : (s : Context f ranges) → s.before ≡ old → slice_get s.defs (f.number p) ≡ Some (part_def f p) → AreClosed (after_lines old) (part_body f p) → CallsBelow s.bound (part_body f p) →
       AreClosing (further_of s.version) (group_in f ranges s) (after_lines old) (f.number p) (new.lines ++ Loop (f.number p) new.cited ∷ [])
   by_setting s before mine closed below =
       let g : GroupTree = group_in f ranges s in
@@ -145,7 +145,7 @@ module _ (version : Known) (f : Flow) (fits : IsVersionFor f version) (p : Part)
   by_group : (g : GroupTree) (d : ℕ) → IsFor f d g → g.code ≡ ranges → slice_get g.defs (f.number p) ≡ Some (part_def f p) → CallsBelow d (part_body f p) → AreClosed (after_lines old) (part_body f p) →
       AreClosing (further_of version) g (after_lines old) (f.number p) (new.lines ++ Loop (f.number p) new.cited ∷ [])
   by_group g d for code mine below closed =
-      let s : Setting f ranges = record {
+      let s : Context f ranges = record {
         version = version;
         fits = fits;
         name = g.name;

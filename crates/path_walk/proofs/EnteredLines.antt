@@ -27,7 +27,7 @@ use Rattle.code_parts.specs.inner.Ends.{body_on}
 use Rattle.code_parts.proofs.Counts.{all-mems, all-words}
 use Rattle.checker.specs.Further.{further_of}
 use Rattle.path_walk.specs.inner.Acts.{Entered, Exited, GoesOn, LeftBy, exit_standing, new_facts, results_at, steered_standing, steered}
-use Rattle.path_walk.specs.inner.Writers.{FromAs, IsReady, Leads, Led, WriterTree, Setting, CitedTree, StandsAs, Steps, Stood, group_in, past, standing_at}
+use Rattle.path_walk.specs.inner.Writers.{FromAs, IsReady, Leads, Led, WriterTree, Context, CitedTree, StandsAs, Steps, Stood, group_in, past, standing_at}
 use Rattle.path_walk.proofs.CalledDefs.{below_steps, closed_more, closed_steps}
 use Rattle.path_walk.proofs.CallLemmas.{exit_stood, left-version, left_made, results_are}
 use Rattle.path_walk.proofs.Facts.{all-facts, facts_after, leaves-steps}
@@ -44,7 +44,7 @@ among-more fs gs y all x c = by (Contains-append_cases fs (y ∷ []) x c)
     by (inr d) = Contains-append_right gs (y ∷ []) x d
 
 -- a way whose last program counter is a term goes on at an address, where the two are equal
-pub steer_stood : (f : Flow) (ranges : List Range) (s : Setting f ranges) (entry n : ℕ) (c : Callee) → n < f.nodes → f.callee n ≡ Some c → (pc : WordTree) (back : ℕ) (u : VariableMap) (l : WriterTree) (path : List FactTree) (t : CitedTree) → IsReady f ranges s l →
+pub steer_stood : (f : Flow) (ranges : List Range) (s : Context f ranges) (entry n : ℕ) (c : Callee) → n < f.nodes → f.callee n ≡ Some c → (pc : WordTree) (back : ℕ) (u : VariableMap) (l : WriterTree) (path : List FactTree) (t : CitedTree) → IsReady f ranges s l →
     StandsAs f entry ranges (past f ranges s l) pc u path t →
     Stood f entry ranges s l (steered f entry pc back u t l) (Const back) u (path ++ So (Compare Eq pc (Const back)) ∷ []) (steered_standing pc back t l)
 steer_stood f ranges s entry n c node calls pc back u l path t ready here =

@@ -25,7 +25,7 @@ use Rattle.code_parts.specs.declared.part.Part.{Part}
 use Rattle.code_parts.specs.declared.part.Part.TheVariants.{Rest}
 use Rattle.code_parts.specs.declared.callee.Callee.{Callee}
 use Rattle.code_parts.specs.Bodies.{Flow, part_body, part_def}
-use Rattle.code_parts.specs.Flows.{flow_of, place_in, setting_of}
+use Rattle.code_parts.specs.Flows.{flow_of, place_in, context_of}
 use Rattle.code_parts.specs.Kept.{FlowOf, flow_in}
 use Rattle.code_parts.specs.Graph.{CallsBelow, HasCallee, IsCode, IsFor, IsPart}
 use Rattle.code_parts.specs.Members.{AreBased, AreMembers, CallsBefore, IsMember, Member, callee_at, defs_of, flow_at}
@@ -35,7 +35,7 @@ use Rattle.code_parts.proofs.FlowOrder.{calls-below, part-at, there-at}
 use Rattle.code_parts.proofs.Lists.{length-map, slice-mapped}
 use Rattle.checker.specs.Further.{further_of}
 use Rattle.path_walk.specs.Item.{IsWalkedIn}
-use Rattle.linked_group.specs.Groups.{IsLinkedGroup, functions_of, group_in, load_or_store, member_in, members_of, setting_in}
+use Rattle.linked_group.specs.Groups.{IsLinkedGroup, functions_of, group_in, load_or_store, member_in, members_of, context_in}
 use Rattle.linked_group.specs.declared.group.LinkedFunction.{LinkedFunction}
 use Rattle.linked_group.specs.declared.group.LinkedGroup.{LinkedGroup}
 use Rattle.path_walk.specs.Closed.{AreClosedIn}
@@ -106,16 +106,16 @@ module _ (code : Bytes) (bytes : AreBytes code) (ms : List Member) (main : Membe
     is = are.each m in_ms
 
     code-is : IsCode (flow_at m) g.code
-    code-is = is-code true code m.at m.graph m.forest m.setting g.code is.graph is.forest bytes is.bytes is.fits
+    code-is = is-code true code m.at m.graph m.forest m.context g.code is.graph is.forest bytes is.bytes is.fits
 
     entry-is : get_or m.graph.addrs m.graph.entry 0 ≡ m.at
     entry-is = ap (λ n. get_or m.graph.addrs n 0) is.graph.entry ∙ (number_within m.graph.addrs m.at (is.graph.reach.all m.at Stop)).1
 
     whole : IsPart (flow_at m) (Rest None m.graph.entry)
-    whole = whole-is true code m.at m.graph m.forest m.setting is.graph is.forest is.order
+    whole = whole-is true code m.at m.graph m.forest m.context is.graph is.forest is.order
 
     defs-are : (p : Part) → IsPart (flow_at m) p → slice_get g.defs ((flow_at m).number p) ≡ Some (part_def (flow_at m) p)
-    defs-are p there = are.defs m (place_in m.setting.parts p) p in_ms (there-at (flow_at m) (number_of m.forest) m.setting.parts is.order p there)
+    defs-are p there = are.defs m (place_in m.context.parts p) p in_ms (there-at (flow_at m) (number_of m.forest) m.context.parts is.order p there)
 
   callee-there : (y : Member) → Contains ms y → HasCallee g.defs (callee_at y)
   callee-there y c = record { def = part_def (flow_at y) (Rest None y.graph.entry); is = defs-are y c (Rest None y.graph.entry) (whole y c); entry = entry-is y c; exits = refl }
@@ -128,63 +128,63 @@ module _ (code : Bytes) (bytes : AreBytes code) (ms : List Member) (main : Membe
     code = code-is m c;
     has = λ q there low. record { def = part_def (flow_at m) q; is = defs-are m c q there; entry = refl; exits = refl };
     callees = λ n k node e low.
-        let r = mapped m.setting.functions (called_by (get_or m.graph.addrs n 0) (get_or m.graph.instrs n instr.Ebreak)) k e in
+        let r = mapped m.context.functions (called_by (get_or m.graph.addrs n 0) (get_or m.graph.instrs n instr.Ebreak)) k e in
         let y = are.called m n r.0 c node r.1 in
         subst (λ (k : Callee). HasCallee g.defs k) (sym y.2 ∙ r.2) (callee-there y.0 y.1);
   }
 
   -- .. and has its definitions in a row, where what it calls stands before it
-  pub stand-from : (m : Member) → Contains ms m → ((n : ℕ) (k : Callee) → n < length m.graph.addrs → (flow_at m).callee n ≡ Some k → k.def < m.setting.base) → StandFrom (flow_at m) g m.setting.base m.setting.parts
+  pub stand-from : (m : Member) → Contains ms m → ((n : ℕ) (k : Callee) → n < length m.graph.addrs → (flow_at m).callee n ≡ Some k → k.def < m.context.base) → StandFrom (flow_at m) g m.context.base m.context.parts
   stand-from m c before = record {
-    number = λ j q at. ap (λ k. m.setting.base + k) (place j q at).1;
+    number = λ j q at. ap (λ k. m.context.base + k) (place j q at).1;
     group = group-for m c;
     def = λ j q at. are.defs m j q c at;
-    below = λ j q at. subst (λ (d : ℕ). CallsBelow d (part_body (flow_at m) q)) (ap (λ k. m.setting.base + k) (place j q at).1)
-        (calls-below true code m.at m.graph m.forest m.setting (is m c).graph (is m c).forest (is m c).order before q (place j q at).0);
+    below = λ j q at. subst (λ (d : ℕ). CallsBelow d (part_body (flow_at m) q)) (ap (λ k. m.context.base + k) (place j q at).1)
+        (calls-below true code m.at m.graph m.forest m.context (is m c).graph (is m c).forest (is m c).order before q (place j q at).0);
   }
     where
-      place : (j : ℕ) (q : Part) → slice_get m.setting.parts j ≡ Some q → IsPart (flow_at m) q × (place_in m.setting.parts q ≡ j)
-      place j q at = part-at (flow_at m) (number_of m.forest) m.setting.parts (is m c).order j q at
+      place : (j : ℕ) (q : Part) → slice_get m.context.parts j ≡ Some q → IsPart (flow_at m) q × (place_in m.context.parts q ≡ j)
+      place j q at = part-at (flow_at m) (number_of m.forest) m.context.parts (is m c).order j q at
 
 -- ---- one function behind the other
 
 -- as many definitions stand before a function's as those before it have
-pub based-at : (ms : List Member) (base i : ℕ) (m : Member) → AreBased base ms → slice_get ms i ≡ Some m → m.setting.base ≡ base + length (defs_of (take i ms))
+pub based-at : (ms : List Member) (base i : ℕ) (m : Member) → AreBased base ms → slice_get ms i ≡ Some m → m.context.base ≡ base + length (defs_of (take i ms))
 based-at [] base i m based e = absurd (cc)
-based-at (x ∷ ms) base zero m based e = let same : x ≡ m = cc in ap (λ (z : Member). z.setting.base) (sym same) ∙ (let b = based.0 in omega (arith, b))
+based-at (x ∷ ms) base zero m based e = let same : x ≡ m = cc in ap (λ (z : Member). z.context.base) (sym same) ∙ (let b = based.0 in omega (arith, b))
 based-at (x ∷ ms) base (suc i) m based e =
-    let rest = based-at ms (base + length x.setting.parts) i m based.1 e in
-    let own : List DefTree = map (part_def (flow_at x)) x.setting.parts in
+    let rest = based-at ms (base + length x.context.parts) i m based.1 e in
+    let own : List DefTree = map (part_def (flow_at x)) x.context.parts in
     let l = length-append own (defs_of (take i ms)) in
-    let o = length-map (part_def (flow_at x)) x.setting.parts in
+    let o = length-map (part_def (flow_at x)) x.context.parts in
     omega (arith, rest, l, o)
 
 -- the definitions of one function more
-pub defs-more : (ms : List Member) (i : ℕ) (m : Member) → slice_get ms i ≡ Some m → defs_of (take (i + 1) ms) ≡ defs_of (take i ms) ++ map (part_def (flow_at m)) m.setting.parts
+pub defs-more : (ms : List Member) (i : ℕ) (m : Member) → slice_get ms i ≡ Some m → defs_of (take (i + 1) ms) ≡ defs_of (take i ms) ++ map (part_def (flow_at m)) m.context.parts
 defs-more [] i m e = absurd (cc)
 defs-more (x ∷ ms) zero m e =
-    let same : x ≡ m = cc in append-nil (map (part_def (flow_at x)) x.setting.parts) ∙ ap (λ (z : Member). map (part_def (flow_at z)) z.setting.parts) same
+    let same : x ≡ m = cc in append-nil (map (part_def (flow_at x)) x.context.parts) ∙ ap (λ (z : Member). map (part_def (flow_at z)) z.context.parts) same
 defs-more (x ∷ ms) (suc i) m e =
     let next : suc i + 1 ≡ suc (i + 1) = omega arith in
-    ap (λ k. defs_of (take k (x ∷ ms))) next ∙ ap (λ (ds : List DefTree). map (part_def (flow_at x)) x.setting.parts ++ ds) (defs-more ms i m e)
-    ∙ sym (append_assoc (map (part_def (flow_at x)) x.setting.parts) (defs_of (take i ms)) (map (part_def (flow_at m)) m.setting.parts))
+    ap (λ k. defs_of (take k (x ∷ ms))) next ∙ ap (λ (ds : List DefTree). map (part_def (flow_at x)) x.context.parts ++ ds) (defs-more ms i m e)
+    ∙ sym (append_assoc (map (part_def (flow_at x)) x.context.parts) (defs_of (take i ms)) (map (part_def (flow_at m)) m.context.parts))
 
 -- .. and those of each function before it end there
-defs-within : (ms : List Member) (base i : ℕ) (y : Member) → AreBased base ms → Contains (take i ms) y → y.setting.base + length y.setting.parts ≤ base + length (defs_of (take i ms))
+defs-within : (ms : List Member) (base i : ℕ) (y : Member) → AreBased base ms → Contains (take i ms) y → y.context.base + length y.context.parts ≤ base + length (defs_of (take i ms))
 defs-within [] base zero y based (j, lt, at) = absurd (omega (arith, lt))
 defs-within [] base (suc i) y based (j, lt, at) = absurd (omega (arith, lt))
 defs-within (x ∷ ms) base zero y based (j, lt, at) = absurd (omega (arith, lt))
 defs-within (x ∷ ms) base (suc i) y based (zero, lt, at) =
-    let own : List DefTree = map (part_def (flow_at x)) x.setting.parts in
+    let own : List DefTree = map (part_def (flow_at x)) x.context.parts in
     let l = length-append own (defs_of (take i ms)) in
-    let o = length-map (part_def (flow_at x)) x.setting.parts in
+    let o = length-map (part_def (flow_at x)) x.context.parts in
     let b = based.0 in
-    subst (λ (z : Member). z.setting.base + length z.setting.parts ≤ base + length (own ++ defs_of (take i ms))) at (omega (arith, l, o, b))
+    subst (λ (z : Member). z.context.base + length z.context.parts ≤ base + length (own ++ defs_of (take i ms))) at (omega (arith, l, o, b))
 defs-within (x ∷ ms) base (suc i) y based (suc j, lt, at) =
-    let rest = defs-within ms (base + length x.setting.parts) i y based.1 (j, omega (arith, lt), at) in
-    let own : List DefTree = map (part_def (flow_at x)) x.setting.parts in
+    let rest = defs-within ms (base + length x.context.parts) i y based.1 (j, omega (arith, lt), at) in
+    let own : List DefTree = map (part_def (flow_at x)) x.context.parts in
     let l = length-append own (defs_of (take i ms)) in
-    let o = length-map (part_def (flow_at x)) x.setting.parts in
+    let o = length-map (part_def (flow_at x)) x.context.parts in
     omega (arith, rest, l, o)
 
 -- the first of them have fewer
@@ -194,18 +194,18 @@ defs-fewer [] (suc i) = omega arith
 defs-fewer (x ∷ ms) zero = omega arith
 defs-fewer (x ∷ ms) (suc i) =
     let rest = defs-fewer ms i in
-    let own : List DefTree = map (part_def (flow_at x)) x.setting.parts in
+    let own : List DefTree = map (part_def (flow_at x)) x.context.parts in
     let l = length-append own (defs_of (take i ms)) in
     let k = length-append own (defs_of ms) in
     omega (arith, rest, l, k)
 
 -- what the function calls is one of those before it
 calls-earlier : (known ms : List Member) (i : ℕ) (m : Member) → CallsBefore known ms → slice_get ms i ≡ Some m → (n t : ℕ) → n < length m.graph.addrs → called_by (get_or m.graph.addrs n 0) (get_or m.graph.instrs n instr.Ebreak) ≡ Some t
-    → (y : Member) × Contains (known ++ take i ms) y × (m.setting.functions t ≡ callee_at y)
+    → (y : Member) × Contains (known ++ take i ms) y × (m.context.functions t ≡ callee_at y)
 calls-earlier known [] i m calls e n t node called = absurd (cc)
 calls-earlier known (x ∷ ms) zero m calls e n t node called =
     let same : x ≡ m = cc in
-    subst (λ (z : Member). n < length z.graph.addrs → called_by (get_or z.graph.addrs n 0) (get_or z.graph.instrs n instr.Ebreak) ≡ Some t → (y : Member) × Contains (known ++ []) y × (z.setting.functions t ≡ callee_at y)) same
+    subst (λ (z : Member). n < length z.graph.addrs → called_by (get_or z.graph.addrs n 0) (get_or z.graph.instrs n instr.Ebreak) ≡ Some t → (y : Member) × Contains (known ++ []) y × (z.context.functions t ≡ callee_at y)) same
     (λ node called. let r = calls.0 n t node called in (r.0, subst (λ (ys : List Member). Contains ys r.0) (sym (append-nil known)) r.1, r.2)) node called
 calls-earlier known (x ∷ ms) (suc i) m calls e n t node called =
     let r = calls-earlier (known ++ x ∷ []) ms i m calls.1 e n t node called in
@@ -266,14 +266,14 @@ module _ (s : LinkedGroup) (name : List ℕ) (can : CanAllBeWalked s name) (base
       below : (n : ℕ) (k : Callee) → n < length f.function.now.graph.addrs → (flow_at (member_in s f)).callee n ≡ Some k → k.def < f.base
       below n k node e =
           let m : Member = member_in s f in
-          let r = mapped m.setting.functions (called_by (get_or m.graph.addrs n 0) (get_or m.graph.instrs n instr.Ebreak)) k e in
+          let r = mapped m.context.functions (called_by (get_or m.graph.addrs n 0) (get_or m.graph.instrs n instr.Ebreak)) k e in
           let y = calls-earlier [] (members_of s) i m can.calls (at-place i f at) n r.0 node r.1 in
           let ends = defs-within (members_of s) 0 i y.0 based y.1 in
           let behind = based-at (members_of s) 0 i m based (at-place i f at) in
           let their = can.members.each y.0 (in-taken (members_of s) i y.0 y.1) in
-          let whole = whole-is true can.code y.0.at y.0.graph y.0.forest y.0.setting their.graph their.forest their.order in
-          let low = slice_get_within y.0.setting.parts (place_in y.0.setting.parts (Rest None y.0.graph.entry)) (Rest None y.0.graph.entry)
-          (there-at (flow_at y.0) (number_of y.0.forest) y.0.setting.parts their.order (Rest None y.0.graph.entry) whole) in
+          let whole = whole-is true can.code y.0.at y.0.graph y.0.forest y.0.context their.graph their.forest their.order in
+          let low = slice_get_within y.0.context.parts (place_in y.0.context.parts (Rest None y.0.graph.entry)) (Rest None y.0.graph.entry)
+          (there-at (flow_at y.0) (number_of y.0.forest) y.0.context.parts their.order (Rest None y.0.graph.entry) whole) in
           subst (λ (c : Callee). c.def < f.base) (sym y.2 ∙ r.2) (omega (arith, ends, behind, low))
 
   pub none_of : AreWalkedOf s 0 [] []
@@ -318,8 +318,8 @@ size-more fs i f size n lt is before count =
 
 -- ---- as the code has them
 
-pub flow-same : (x : FlowOf) (s : LinkedGroup) (f : LinkedFunction) → x.graph ≡ f.function.now.graph → x.forest ≡ f.function.now.forest → x.setting ≡ setting_in s f → flow_in x ≡ flow_at (member_in s f)
-flow-same x s f graph forest setting = λ i. flow_of (graph i) (forest i) (setting_of (setting i))
+pub flow-same : (x : FlowOf) (s : LinkedGroup) (f : LinkedFunction) → x.graph ≡ f.function.now.graph → x.forest ≡ f.function.now.forest → x.context ≡ context_in s f → flow_in x ≡ flow_at (member_in s f)
+flow-same x s f graph forest context = λ i. flow_of (graph i) (forest i) (context_of (context i))
 
 pub group-same : (s : LinkedGroup) (name : List ℕ) (g : GroupTree) → g.name ≡ name → g.regs ≡ s.regs → g.mems ≡ s.mems → g.code ≡ s.code.ranges → g.defs ≡ defs_of (members_of s) → g ≡ group_in s name
 group-same s name g named regs mems code defs = λ i. record { name = named i; regs = regs i; mems = mems i; code = code i; defs = defs i }

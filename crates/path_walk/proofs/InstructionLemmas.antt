@@ -19,7 +19,7 @@ use Rattle.code_parts.specs.Graph.{StandsAt}
 use Rattle.checker.specs.Further.{further_of}
 use Rattle.path_walk.specs.Further.{is_crossed}
 use Rattle.path_walk.specs.inner.Acts.{Acted, GoesOn, Ordered, Put, Renamed, act_standing, all_mems, mem_first, named_own, named_wide, new_facts, own_mems, own_words}
-use Rattle.path_walk.specs.inner.Writers.{FromAs, IsReady, Restated, WriterTree, Setting, CitedTree, Steps, Stood, group_in, past, stating, stating_further}
+use Rattle.path_walk.specs.inner.Writers.{FromAs, IsReady, Restated, WriterTree, Context, CitedTree, Steps, Stood, group_in, past, stating, stating_further}
 use Rattle.path_walk.proofs.WriterLemmas.{Ends, ends_restated, ends_state, from_on, grown_add, grown_join, held_add}
 use Rattle.path_walk.proofs.Joins.{some_and}
 use Rattle.path_walk.proofs.Lines.{axiom-is, in-order, is_exchanged, is_framed, is_put, is_weakened, own-rise, own-test}
@@ -27,7 +27,7 @@ use Rattle.code_parts.proofs.Lists.{in_range, in-contains}
 use Rattle.path_walk.proofs.JoinedLines.{goes-version, goes_on}
 use Rattle.path_walk.proofs.OrderedLines.{acted-version}
 
-module _ (f : Flow) (ranges : List Range) (s : Setting f ranges) (n : ℕ) (node : n < f.nodes) (at : StandsAt f ranges n) where
+module _ (f : Flow) (ranges : List Range) (s : Context f ranges) (n : ℕ) (node : n < f.nodes) (at : StandsAt f ranges n) where
   reads : (r : ℕ) → Contains (sources (f.instr n)) r → (r ≡ 0 → ⊥) → (1 ≤ r) × (r ≤ 31)
   reads r c ne = in_range 1 f.regs r s.code.registers (at.reads r c ne)
 

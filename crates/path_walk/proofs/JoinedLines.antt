@@ -14,7 +14,7 @@ use Rattle.proof_text.specs.Line.{Compose}
 use Rattle.checker.specs.Instance.{Meets}
 use Rattle.code_parts.specs.Bodies.{Flow, VariableMap, start}
 use Rattle.path_walk.specs.inner.Acts.{GoesOn}
-use Rattle.path_walk.specs.inner.Writers.{FromAs, IsReady, WriterTree, Setting, CitedTree, Stood, group_in, past, standing_at, stating}
+use Rattle.path_walk.specs.inner.Writers.{FromAs, IsReady, WriterTree, Context, CitedTree, Stood, group_in, past, standing_at, stating}
 use Rattle.path_walk.proofs.WriterLemmas.{grown_none, grown_state, held_now}
 use Rattle.path_walk.proofs.Joins.{drop-all, or-within, some-same, some_and}
 use Rattle.code_parts.proofs.Lists.{later}
@@ -34,7 +34,7 @@ pub goes-version : (f : Flow) (entry : ℕ) (from : Option CitedTree) (there t :
 goes-version f entry None there t to u old new on = ap (λ (l : WriterTree). l.version) on.0
 goes-version f entry (Some st) there t to u old new on = ap (λ (l : WriterTree). l.version) on.log
 
-module _ (f : Flow) (ranges : List Range) (s : Setting f ranges) (entry : ℕ) where
+module _ (f : Flow) (ranges : List Range) (s : Context f ranges) (entry : ℕ) where
   pub goes_on : (old new : WriterTree) (pc : WordTree) (v : VariableMap) (path ways : List FactTree) (from : Option CitedTree) (there t : CitedTree) (to : WordTree) (u : VariableMap) →
       IsReady f ranges s old → FromAs f entry ranges (past f ranges s old) pc v path from →
       (past f ranges s old).theorem there.number ≡ Some (record { facts = there.facts; pre = standing_at f pc v; code = there.code; post = standing_at f to u }) →

@@ -30,7 +30,7 @@ use Rattle.path_walk.specs.inner.Near.{IsEnd, IsNear}
 use Rattle.code_parts.specs.inner.Ends.{body_on, returned_body, returning}
 use Rattle.code_parts.specs.Regions.{ends_at}
 use Rattle.path_walk.specs.inner.Lines.{ArmsLead}
-use Rattle.path_walk.specs.inner.Writers.{FromAs, Grown, IsReady, Leads, Led, WriterTree, Setting, CitedTree, StandsAs, Steps, StepsBy, citing, group_in, past, standing_at}
+use Rattle.path_walk.specs.inner.Writers.{FromAs, Grown, IsReady, Leads, Led, WriterTree, Context, CitedTree, StandsAs, Steps, StepsBy, citing, group_in, past, standing_at}
 use Rattle.path_walk.proofs.Facts.{all-facts, need-facts, facts_after, leaves-steps}
 use Rattle.code_parts.proofs.Counts.{all-mems, all-words}
 use Rattle.code_parts.proofs.BuiltBodies.{IsNoBranch, goes_back, goes_straight, goes_two_ways, straight_edge}
@@ -45,15 +45,15 @@ module _ (f : Flow) (p : Part) (ranges : List Range) where
   abbrev def : DefTree
   def = part_def f p
 
-  abbrev Here : Setting f ranges → WriterTree → WordTree → VariableMap → List FactTree → CitedTree → Type 0
+  abbrev Here : Context f ranges → WriterTree → WordTree → VariableMap → List FactTree → CitedTree → Type 0
   Here s l = StandsAs f (part_def f p).entry ranges (past f ranges s l)
 
-  abbrev Start : Setting f ranges → WriterTree → WordTree → VariableMap → List FactTree → Option CitedTree → Type 0
+  abbrev Start : Context f ranges → WriterTree → WordTree → VariableMap → List FactTree → Option CitedTree → Type 0
   Start s l = FromAs f (part_def f p).entry ranges (past f ranges s l)
 
   -- ---- lines after lines
 
-  module _ (s : Setting f ranges) where
+  module _ (s : Context f ranges) where
     pub led_none : (a : WriterTree) → IsReady f ranges s a → Led f p ranges s a a []
     led_none a ready = record { grown = grown_none f ranges s a ready; numbers = []; cited = sym (append-nil a.cited); each = tt }
 
@@ -115,7 +115,7 @@ module _ (f : Flow) (p : Part) (ranges : List Range) where
 
   -- a body that is a leaf for the current variables
   leaf_leads : (old : WriterTree) (pc : WordTree) (v : VariableMap) (t : CitedTree) (body : BodyTree) →
-      ((s : Setting f ranges) (path : List FactTree) → body_leaves (group_in f ranges s) (part_def f p) body v.words v.mems path ≡ record { facts = path; post = with_values (group_in f ranges s) pc (current f v) } ∷ []) →
+      ((s : Context f ranges) (path : List FactTree) → body_leaves (group_in f ranges s) (part_def f p) body v.words v.mems path ≡ record { facts = path; post = with_values (group_in f ranges s) pc (current f v) } ∷ []) →
       Leads f p ranges old (citing t.number old) pc v (Some t) body
   leaf_leads old pc v t body same = record {
     version = refl;

@@ -20,7 +20,7 @@ use Rattle.rv_words.specs.declared.range.Range.{Range}
 use Rattle.code_parts.specs.declared.callee.Callee.{Callee}
 use Rattle.code_parts.specs.Bodies.{Flow, part_body, part_def}
 use Rattle.code_parts.specs.Graph.{CallsBelow, IsAlone, IsFor, IsGraph, IsMade, IsPart}
-use Rattle.code_parts.specs.Flows.{AreCodeOf, IsReached, Setting, alone, flow_of, group_of, group_over}
+use Rattle.code_parts.specs.Flows.{AreCodeOf, IsReached, Context, alone, flow_of, group_of, group_over}
 use Rattle.checker.specs.Further.{further_of}
 use Rattle.path_walk.specs.Further.{IsVersionFor}
 use Rattle.path_walk.specs.Item.{IsItemWith, IsWalkedIn}
@@ -77,16 +77,16 @@ module _ (version : Known) (s : FlowOf) where
   none_walked = record { are = refl; fine = tt; close = λ g made code. record { right = tt; closed = λ d lt. absurd (omega (arith, lt)) } }
 
   -- .. and the next part
-  pub walked_more : (n : ℕ) (p : Part) (defs : List DefTree) (d : DefTree) (old new : List LineTree) → IsGraph (flow_in s) → slice_get s.setting.parts n ≡ Some p → AreWalked version s n defs old →
+  pub walked_more : (n : ℕ) (p : Part) (defs : List DefTree) (d : DefTree) (old new : List LineTree) → IsGraph (flow_in s) → slice_get s.context.parts n ≡ Some p → AreWalked version s n defs old →
       d ≡ part_def (flow_in s) p → IsWalkedIn version (flow_in s) s.code p old new → AreWalked version s (n + 1) (defs ++ d ∷ []) new
   walked_more n p defs d old new graph at so_far def one = record {
-    are = (λ i. so_far.are i ++ def i ∷ []) ∙ sym (one_more (part_def (flow_in s)) s.setting.parts n p at);
+    are = (λ i. so_far.are i ++ def i ∷ []) ∙ sym (one_more (part_def (flow_in s)) s.context.parts n p at);
     fine = subst (AllByRecursion (IsLineIn (version_of version))) (sym one.lines) (all_join (IsLineIn (version_of version)) old one.added so_far.fine one.fine);
     close = λ g made code.
         let there = made.part n p at in
         let mine : slice_get g.defs ((flow_in s).number p) ≡ Some (part_def (flow_in s) p) =
-        (λ i. slice_get (made.defs i) ((flow_in s).number p)) ∙ slice-mapped (part_def (flow_in s)) s.setting.parts ((flow_in s).number p) p (made.listed p there.0) in
-        first_more version (flow_in s) s.code p g n old new one there.1 (for (flow_in s) g s.setting.parts graph made n) code mine (made.below n p at) (so_far.close g made code);
+        (λ i. slice_get (made.defs i) ((flow_in s).number p)) ∙ slice-mapped (part_def (flow_in s)) s.context.parts ((flow_in s).number p) p (made.listed p there.0) in
+        first_more version (flow_in s) s.code p g n old new one there.1 (for (flow_in s) g s.context.parts graph made n) code mine (made.below n p at) (so_far.close g made code);
   }
 
 map_join : {A B : Type 0} (h : A → B) (xs : List A) (x : A) → map h (xs ++ x ∷ []) ≡ map h xs ++ h x ∷ []
@@ -94,11 +94,11 @@ map_join h [] x = refl
 map_join h (y ∷ xs) x = ap (λ zs. h y ∷ zs) (map_join h xs x)
 
 -- .. as the loop over them goes
-pub walked_next : (version : Known) (s : FlowOf) (parts : List Part) (n : ℕ) (x : Part) (defs more : List Def) (d : Def) (old new : List LineTree) → parts ≡ s.setting.parts → IsGraph (flow_in s) → n < length parts →
+pub walked_next : (version : Known) (s : FlowOf) (parts : List Part) (n : ℕ) (x : Part) (defs more : List Def) (d : Def) (old new : List LineTree) → parts ≡ s.context.parts → IsGraph (flow_in s) → n < length parts →
     AreWalked version s n (map def_tree defs) old → more ≡ defs ++ d ∷ [] → def_tree d ≡ part_def (flow_in s) (get_or parts n x) → IsWalkedIn version (flow_in s) s.code (get_or parts n x) old new →
     AreWalked version s (n + 1) (map def_tree more) new
 walked_next version s parts n x defs more d old new are graph lt so_far pushed def one =
-    let at : slice_get s.setting.parts n ≡ Some (get_or parts n x) = (λ i. slice_get (sym are i) n) ∙ slice_get-get_or parts n x lt in
+    let at : slice_get s.context.parts n ≡ Some (get_or parts n x) = (λ i. slice_get (sym are i) n) ∙ slice_get-get_or parts n x lt in
     subst (λ (ds : List DefTree). AreWalked version s (n + 1) ds new) (sym (ap (map def_tree) pushed ∙ map_join def_tree defs d))
     (walked_more version s n (get_or parts n x) (map def_tree defs) (def_tree d) old new graph at so_far def one)
 
@@ -109,27 +109,27 @@ pub parts-there : (f : Flow) (left : ℕ → ℕ) (parts : List Part) → ArePar
 parts-there f left parts order = λ k d lt. (order.all (get_or parts k d)).0 (All-contains_itself parts k d lt)
 
 -- all parts, as an item
-pub item_over : (version : Known) (s : FlowOf) (name : List ℕ) (count : ℕ) (item : Item) (defs : List DefTree) → AreWalked version s (length s.setting.parts) defs (map line_tree item.lines) →
+pub item_over : (version : Known) (s : FlowOf) (name : List ℕ) (count : ℕ) (item : Item) (defs : List DefTree) → AreWalked version s (length s.context.parts) defs (map line_tree item.lines) →
     group_tree item.group ≡ group_over (flow_in s) name s.code defs → item.reached ≡ count → IsItemOver version s name count item
 item_over version s name count item defs walked group reached = record {
   group = is;
   fine = walked.fine;
   close = λ made.
       let all = walked.close (group_tree item.group) made (ap (λ (g : GroupTree). g.code) is) in
-      let long = length-map (part_def (flow_in s)) s.setting.parts in
-      let many : length (group_tree item.group).defs ≡ length (map (part_def (flow_in s)) s.setting.parts) = ap (λ (g : GroupTree). length g.defs) is in
+      let long = length-map (part_def (flow_in s)) s.context.parts in
+      let many : length (group_tree item.group).defs ≡ length (map (part_def (flow_in s)) s.context.parts) = ap (λ (g : GroupTree). length g.defs) is in
       record { right = all.right; closed = λ d lt. all.closed d (omega (arith, lt, many, long)) };
   reached = reached;
 }
   where
-    is : group_tree item.group ≡ group_of (flow_in s) name s.code s.setting.parts
-    is = group ∙ ap (group_over (flow_in s) name s.code) (walked.are ∙ ap (map (part_def (flow_in s))) (taken s.setting.parts))
+    is : group_tree item.group ≡ group_of (flow_in s) name s.code s.context.parts
+    is = group ∙ ap (group_over (flow_in s) name s.code) (walked.are ∙ ap (map (part_def (flow_in s))) (taken s.context.parts))
 
--- .. of a graph in the setting that goes with its parts
-pub item_in_setting : (version : Known) (set : List Part → Setting) (g : GraphOf) (f : ForestOf) (parts : List Part) (s : FlowOf) (name : List ℕ) (count : ℕ) (item : Item) →
-    flow_in s ≡ flow_of g f (set parts) → s.setting.parts ≡ parts → IsItemOver version s name count item → count ≡ length g.addrs → AreParts (flow_of g f (set parts)) (number_of f) parts → AreCodeOf g s.code →
+-- .. of a graph in the context that goes with its parts
+pub item_in_context : (version : Known) (set : List Part → Context) (g : GraphOf) (f : ForestOf) (parts : List Part) (s : FlowOf) (name : List ℕ) (count : ℕ) (item : Item) →
+    flow_in s ≡ flow_of g f (set parts) → s.context.parts ≡ parts → IsItemOver version s name count item → count ≡ length g.addrs → AreParts (flow_of g f (set parts)) (number_of f) parts → AreCodeOf g s.code →
     ((ranges : List Range) → ranges ≡ s.code → IsMade (flow_of g f (set parts)) (group_of (flow_of g f (set parts)) name ranges parts) parts) → IsItemWith version set g f name item
-item_in_setting version set g f parts s name count item same are over long order code made = record {
+item_in_context version set g f parts s name count item same are over long order code made = record {
   parts = parts;
   ordered = order;
   code = subst (AreCodeOf g) (sym ranges) code;
@@ -145,8 +145,8 @@ item_in_setting version set g f parts s name count item same are over long order
     is : group_tree item.group ≡ group_of (flow_of g f (set parts)) name item.group.code.ranges parts
     is = over.group ∙ (λ i. group_of (same i) name (sym ranges i) (are i))
 
-    closed : IsMade (flow_in s) (group_tree item.group) s.setting.parts
+    closed : IsMade (flow_in s) (group_tree item.group) s.context.parts
     closed =
-        subst (λ (h : Flow). IsMade h (group_tree item.group) s.setting.parts) (sym same)
+        subst (λ (h : Flow). IsMade h (group_tree item.group) s.context.parts) (sym same)
         (subst (λ (ps : List Part). IsMade (flow_of g f (set parts)) (group_tree item.group) ps) (sym are)
         (subst (λ (t : GroupTree). IsMade (flow_of g f (set parts)) t parts) (sym is) (made item.group.code.ranges ranges)))

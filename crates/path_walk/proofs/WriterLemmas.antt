@@ -8,10 +8,10 @@ use Rattle.checker.specs.Instance.{AreInstancesBy, History, InstanceBy, Meets, a
 use Rattle.code_parts.specs.Bodies.{Flow, VariableMap}
 use Rattle.path_walk.specs.inner.Histories.{IsCounted, Keeps}
 use Rattle.checker.specs.Further.{further_of}
-use Rattle.path_walk.specs.inner.Writers.{FromAs, Grown, IsReady, Restated, WriterTree, Setting, CitedTree, StandsAs, adding, group_in, past, stating}
+use Rattle.path_walk.specs.inner.Writers.{FromAs, Grown, IsReady, Restated, WriterTree, Context, CitedTree, StandsAs, adding, group_in, past, stating}
 use Rattle.path_walk.proofs.RightLines.{Made, fold-join, held_last, joined, made_one}
 
-module _ (f : Flow) (ranges : List Range) (s : Setting f ranges) where
+module _ (f : Flow) (ranges : List Range) (s : Context f ranges) where
   pub grown_made : (a b : WriterTree) → Grown f ranges s a b → Made (further_of s.version) (group_in f ranges s) (past f ranges s a) (past f ranges s b)
   grown_made a b m = record {
     lines = m.added;

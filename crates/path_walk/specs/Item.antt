@@ -17,7 +17,7 @@ use Rattle.code_parts.specs.Bodies.{Flow, part_body, part_def}
 use Rattle.path_walk.specs.Closed.{AreClosed, AreClosedIn}
 use Rattle.checker.specs.Further.{further_of}
 use Rattle.code_parts.specs.Graph.{CallsBelow, IsFor}
-use Rattle.code_parts.specs.Flows.{AreCodeOf, Setting, alone, flow_of, group_of}
+use Rattle.code_parts.specs.Flows.{AreCodeOf, Context, alone, flow_of, group_of}
 use Rattle.code_parts.specs.Order.{AreParts}
 
 -- lines after those that left h behind them, each of which is right in a text with that further rule, close definition d and open none again
@@ -45,9 +45,9 @@ pub record IsWalkedAfter (g : GraphOf) (f : ForestOf) (earlier : List Part) (p :
   pub code : AreCodeOf g ranges
   pub walked : IsWalked (flow_of g f (alone g earlier)) ranges p old new
 
--- The group of a graph's parts in their order, with its code, in the setting that goes with these parts, and lines in a text of that version that
+-- The group of a graph's parts in their order, with its code, in the context that goes with these parts, and lines in a text of that version that
 -- close each of its definitions.
-pub record IsItemWith (version : Known) (set : List Part → Setting) (g : GraphOf) (f : ForestOf) (name : List ℕ) (item : Item) : Type 0 where
+pub record IsItemWith (version : Known) (set : List Part → Context) (g : GraphOf) (f : ForestOf) (name : List ℕ) (item : Item) : Type 0 where
   pub parts : List Part
   pub ordered : AreParts (flow_of g f (set parts)) (number_of f) parts
   pub code : AreCodeOf g item.group.code.ranges

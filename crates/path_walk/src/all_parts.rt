@@ -34,7 +34,7 @@ pub fn walk_all(
     parts: &[Part],
 ) -> Result<Walks, NoMemory>
     requires version { IsVersionFor (flow_in flow.now) version }
-    requires parts { parts.now ≡ flow.now.setting.parts }
+    requires parts { parts.now ≡ flow.now.context.parts }
     requires each { All (IsPart (flow_in flow.now)) parts.now }
     ensures lines { IfOk result (λ w.
         AreWalked version flow.now (length parts.now) (map def_tree w.defs)

@@ -56,7 +56,7 @@ pub fn item_in(
     reached: u32,
 ) -> Result<Item, NoMemory>
     requires version { IsVersionFor (flow_in flow.now) version }
-    requires parts { parts.now ≡ flow.now.setting.parts }
+    requires parts { parts.now ≡ flow.now.context.parts }
     requires each { All (IsPart (flow_in flow.now)) parts.now }
     ensures item { IfOk result (λ item. IsItemOver version flow.now name reached item) }
     ensures kept { IfOk result (λ item. KeepsNone (after_lines (map line_tree item.lines))) }

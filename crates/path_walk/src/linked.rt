@@ -79,12 +79,12 @@ fn walk_function(
     ensures kept { OnOk result (KeepsNone (after_lines (map line_tree lines.old))
         → KeepsNone (after_lines (map line_tree lines.new))) }
 {
-    let setting = group.setting(function);
+    let context = group.context(function);
     let flow = Flow::of(
         alloc,
         &function.function.graph,
         &function.function.forest,
-        &setting,
+        &context,
         &group.code,
     )?;
     walk_parts(alloc, &flow, function.parts.as_slice(), first, defs, lines)

@@ -9,7 +9,7 @@ ghost use Rattle.path_walk.specs.Forgotten.{KeepsNone};
 ghost use Rattle.path_walk.specs.Split.{IsSplitItem};
 
 use crate::item::{Item, item_in};
-use code_parts::{Flow, Setting, parts_of};
+use code_parts::{Flow, Context, parts_of};
 use flow_graph::Graph;
 use group_text::Version;
 use loop_forest::Forest;
@@ -34,7 +34,7 @@ pub fn split_item(
     let parts = parts_of(alloc, graph, forest)?;
     let parts = parts.as_slice();
     let alone = Flow::new(alloc, graph, forest, parts)?;
-    let setting = Setting {
+    let context = Context {
         base: 0,
         parts,
         regs: alone.regs(),
@@ -42,7 +42,7 @@ pub fn split_item(
         second,
         functions: &[],
     };
-    let flow = Flow::of(alloc, graph, forest, &setting, alone.code())?;
+    let flow = Flow::of(alloc, graph, forest, &context, alone.code())?;
     flow.law_of_code();
     item_in(alloc, Version::Four, name, &flow, parts, graph.len())
 }

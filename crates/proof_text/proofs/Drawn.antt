@@ -14,8 +14,8 @@ use Rattle.mc_shelf.specs.declared.lines.LineFault.TheVariants as line
 use Rattle.group_text.specs.inner.Rows.{IsRow}
 use Rattle.group_text.specs.declared.read_error.RowError.{RowError}
 use Rattle.group_text.specs.declared.read_error.RowError.TheVariants as row
-use Rattle.proof_text.specs.inner.PulledRows.{PulledState, IsTail, Draws, FailsFirst, WhereHeld, KeepsLine, held_bytes, after_newlines, behind_held, not_passed}
-use Rattle.proof_text.specs.inner.Drawing.{draws_nothing, where_held}
+use Rattle.proof_text.specs.inner.PulledRows.{PulledState, IsTail, Draws, FailsFirst, IfFile, KeepsLine, held_bytes, after_newlines, behind_held, not_passed}
+use Rattle.proof_text.specs.inner.Drawing.{draws_nothing, if_file}
 use Rattle.proof_text.proofs.Pulled.{row-lines, row_length, passed_of, taken-kept, with_lines, kept-line}
 
 -- ---- what is held, and what was answered
@@ -115,7 +115,7 @@ module _ {Store : Type 0} (contents : Store → Option Contents) (reads writes :
   module _ (going : s.lines.refused ≡ None) (still : l.refused ≡ None) where
     -- a line was kept
     pub drew_line : (given : List ℕ) (f : Bool) (new : PulledState) → s.held ≡ [] → s.tail ≡ [] → KeepsLine f given (with_lines s l) new
-        → WhereHeld (contents d) s.lines.name (λ file. GivesFirstLine (Some given) (bytes_left s.lines file) (bytes_left l file)) → Draws contents reads writes Sure None s d new e
+        → IfFile (contents d) s.lines.name (λ file. GivesFirstLine (Some given) (bytes_left s.lines file) (bytes_left l file)) → Draws contents reads writes Sure None s d new e
     drew_line given f new none no_tail keeps gives = record {
       shelf = shelf-read None (λ h. absurd (none-fails h));
       name = ap (λ (x : LinesState). x.name) (lines-kept f keeps) ∙ same.0;
@@ -139,12 +139,12 @@ module _ {Store : Type 0} (contents : Store → Option Contents) (reads writes :
         in-name None g = tt
         in-name (Some file) g = ap after_newlines (sym (kept-line file given f s new l none no_tail keeps g))
 
-        by : (told : Option Contents) → WhereHeld told s.lines.name Gives → WhereHeld told s.lines.name Same
+        by : (told : Option Contents) → IfFile told s.lines.name Gives → IfFile told s.lines.name Same
         by None g = tt
         by (Some files) g = in-name (files s.lines.name) g
 
     -- there was none
-    pub drew_none : s.held ≡ [] → s.tail ≡ [] → WhereHeld (contents d) s.lines.name (λ file. GivesFirstLine None (bytes_left s.lines file) (bytes_left l file)) → Draws contents reads writes Sure None s d (with_lines s l) e
+    pub drew_none : s.held ≡ [] → s.tail ≡ [] → IfFile (contents d) s.lines.name (λ file. GivesFirstLine None (bytes_left s.lines file) (bytes_left l file)) → Draws contents reads writes Sure None s d (with_lines s l) e
     drew_none none no_tail gives = record {
       shelf = shelf-read None (λ h. absurd (none-fails h));
       name = same.0;
@@ -164,7 +164,7 @@ module _ {Store : Type 0} (contents : Store → Option Contents) (reads writes :
         in-name None g = tt
         in-name (Some file) g = λ i. after_newlines (s.held ++ behind_held s.tail ((g.1 ∙ sym g.0) i))
 
-        by : (told : Option Contents) → WhereHeld told s.lines.name Gives → WhereHeld told s.lines.name Same
+        by : (told : Option Contents) → IfFile told s.lines.name Gives → IfFile told s.lines.name Same
         by None g = tt
         by (Some files) g = in-name (files s.lines.name) g
 
@@ -179,7 +179,7 @@ drew_pass contents reads writes Sure s d row =
       size = refl;
       taken = omega arith;
       going = λ _. refl;
-      last = λ _. where_held (contents d) s.lines.name _ (λ file. sym (after_lines s.held (behind_held s.tail (bytes_left s.lines file)) (row-lines s.held row)));
+      last = λ _. if_file (contents d) s.lines.name _ (λ file. sym (after_lines s.held (behind_held s.tail (bytes_left s.lines file)) (row-lines s.held row)));
     }
 
 -- ---- whether bytes are left

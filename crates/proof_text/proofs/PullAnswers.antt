@@ -5,7 +5,7 @@ use Rattle.mc_shelf.specs.Shelf.{Contents}
 use Rattle.proof_text.specs.declared.pull_fault.PullFault.{PullFault}
 use Rattle.proof_text.specs.declared.pull_fault.PullFault.TheVariants as pull
 use Rattle.proof_text.specs.Pulling.{IfBad}
-use Rattle.proof_text.specs.inner.PulledRows.{WhereHeld}
+use Rattle.proof_text.specs.inner.PulledRows.{IfFile}
 
 module _ {X E : Type 0} where
   pub ok_so : (r : Result X E) (P Q : X → Type 0) → ((x : X) → P x → Q x) → IfOk r P → IfOk r Q
@@ -51,5 +51,5 @@ err_bad_so (Ok x) P Q so h = tt
 err_bad_so (Err f) P Q so h = bad_so f P Q so h
 
 -- what is said of the file that the name holds
-pub held_at : (told : Option Contents) (name : List ℕ) (P : List ℕ → Type 0) (files : Contents) (file : List ℕ) → told ≡ Some files → files name ≡ Some file → WhereHeld told name P → P file
-held_at told name P files file is held h = subst (λ (o : Option (List ℕ)). IfSome o P) held (subst (λ (t : Option Contents). WhereHeld t name P) is h)
+pub held_at : (told : Option Contents) (name : List ℕ) (P : List ℕ → Type 0) (files : Contents) (file : List ℕ) → told ≡ Some files → files name ≡ Some file → IfFile told name P → P file
+held_at told name P files file is held h = subst (λ (o : Option (List ℕ)). IfSome o P) held (subst (λ (t : Option Contents). IfFile t name P) is h)

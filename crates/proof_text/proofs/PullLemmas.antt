@@ -19,7 +19,7 @@ use Rattle.group_text.proofs.Claims.{bytes-left, tail-left}
 use Rattle.group_text.proofs.HeadLaws.{IsCode}
 use Rattle.group_text.proofs.Joins.{AllOk, AllBad}
 use Rattle.proof_text.specs.inner.LineReaders.{KnownTexts}
-use Rattle.proof_text.specs.inner.PulledRows.{PulledState, IsToldPlace, IsPossiblePlace, IsPlaceInName, IsPlaceIn, IsPulledPlace, WhereHeld, after_newlines, not_passed}
+use Rattle.proof_text.specs.inner.PulledRows.{PulledState, IsToldPlace, IsPossiblePlace, IsPlaceInName, IsPlaceIn, IsPulledPlace, IfFile, after_newlines, not_passed}
 use Rattle.proof_text.specs.inner.Pulling.{ReadFrom, StoppedAt}
 use Rattle.proof_text.proofs.KnownLines.{version, Line, Are, Fits, turn}
 use Rattle.proof_text.proofs.Drawn.{after_lines, after_none}
@@ -28,14 +28,14 @@ use Rattle.proof_text.proofs.Resumed.{line-takes}
 
 -- from one thing that is said where it is told to another
 pub told_so : (told : Option Contents) (name : List ℕ) (Q P : List ℕ → Type 0) → ((files : Contents) (file : List ℕ) → told ≡ Some files → files name ≡ Some file → Q file → P file)
-    → WhereHeld told name Q → WhereHeld told name P
+    → IfFile told name Q → IfFile told name P
 told_so told name Q P so q = by told refl q
   where
     in-name : (files : Contents) → told ≡ Some files → (held : Option (List ℕ)) → files name ≡ held → IfSome held Q → IfSome held P
     in-name files e None h q = tt
     in-name files e (Some file) h q = so files file e h q
 
-    by : (t : Option Contents) → told ≡ t → WhereHeld t name Q → WhereHeld t name P
+    by : (t : Option Contents) → told ≡ t → IfFile t name Q → IfFile t name P
     by None e q = tt
     by (Some files) e q = in-name files e (files name) refl q
 

@@ -15,7 +15,7 @@ use Rattle.proof_text.specs.FirstProofs.{Progress, HasGivenOver, ProofEnds, with
 use Rattle.proof_text.specs.Answers.{IsEnd, OnBad, OnEnd, OnGiven}
 use Rattle.proof_text.specs.Pulling.{IfBad, PullState, Pulls, is_fault, progress_in}
 use Rattle.proof_text.specs.Sources.{Both, EndsLines, GivesGroup, GivesLine, GoesOnIn, held_progress, pull_fault, told_progress}
-use Rattle.proof_text.specs.inner.PulledRows.{WhereHeld}
+use Rattle.proof_text.specs.inner.PulledRows.{IfFile}
 use Rattle.proof_text.specs.inner.Sourcing.{PullsSo}
 
 -- ---- a text in memory
@@ -94,7 +94,7 @@ module _ (s : PullState) where
       by None = tt
       by (Some file) = all file
 
-  pub told_held : (told : Option Contents) (P : Progress → Type 0) → IfSome (told_progress told s) P → WhereHeld told s.rows.lines.name (λ file. P (progress_in s file))
+  pub told_held : (told : Option Contents) (P : Progress → Type 0) → IfSome (told_progress told s) P → IfFile told s.rows.lines.name (λ file. P (progress_in s file))
   told_held None P h = tt
   told_held (Some files) P h = by (files s.rows.lines.name) h
     where
@@ -102,7 +102,7 @@ module _ (s : PullState) where
       by None h = tt
       by (Some file) h = h
 
-  pub held_told : (told : Option Contents) (P : Progress → Type 0) → WhereHeld told s.rows.lines.name (λ file. P (progress_in s file)) → IfSome (told_progress told s) P
+  pub held_told : (told : Option Contents) (P : Progress → Type 0) → IfFile told s.rows.lines.name (λ file. P (progress_in s file)) → IfSome (told_progress told s) P
   held_told None P h = tt
   held_told (Some files) P h = by (files s.rows.lines.name) h
     where
@@ -113,14 +113,14 @@ module _ (s : PullState) where
 module _ (told now : Option Contents) (old new : PullState) (kept : now ≡ told) (named : new.rows.lines.name ≡ old.rows.lines.name) where
   -- what is told of the file before and afterwards
   pub held_both : (A B : List ℕ → Type 0) (P : Progress → Progress → Type 0) → ((file : List ℕ) → A file → B file → P (progress_in old file) (progress_in new file))
-      → WhereHeld told old.rows.lines.name A → WhereHeld told old.rows.lines.name B → Both (told_progress told old) (told_progress now new) P
+      → IfFile told old.rows.lines.name A → IfFile told old.rows.lines.name B → Both (told_progress told old) (told_progress now new) P
   held_both A B P so a b = subst (λ (t : Option Contents). Both (told_progress told old) (told_progress t new) P) (sym kept) (by told a b)
     where
       in-name : (held : Option (List ℕ)) → IfSome held A → IfSome held B → Both (held_progress held old) (held_progress held new) P
       in-name None a b = tt
       in-name (Some file) a b = so file a b
 
-      by : (told : Option Contents) → WhereHeld told old.rows.lines.name A → WhereHeld told old.rows.lines.name B → Both (told_progress told old) (told_progress told new) P
+      by : (told : Option Contents) → IfFile told old.rows.lines.name A → IfFile told old.rows.lines.name B → Both (told_progress told old) (told_progress told new) P
       by None a b = tt
       by (Some files) a b =
           subst (λ (n : List ℕ). Both (held_progress (files old.rows.lines.name) old) (held_progress (files n) new) P) (sym named) (in-name (files old.rows.lines.name) a b)
@@ -130,16 +130,16 @@ module _ (told now : Option Contents) (old new : PullState) (kept : now ≡ told
     goes-on file shorter = record { text = λ i. take (size i) file; version = version; shorter = shorter }
 
     pub gives_group : (L : LineGrammar) (g : GroupTree)
-        → WhereHeld told old.rows.lines.name (λ file. (ps : List (ProofOf L.Line)) → HasGivenOver L ps (progress_in old file) → HasGivenOver L (ps ++ bare g ∷ []) (progress_in new file))
-        → WhereHeld told old.rows.lines.name (λ file. length (progress_in new file).rest < length (progress_in old file).rest)
+        → IfFile told old.rows.lines.name (λ file. (ps : List (ProofOf L.Line)) → HasGivenOver L ps (progress_in old file) → HasGivenOver L (ps ++ bare g ∷ []) (progress_in new file))
+        → IfFile told old.rows.lines.name (λ file. length (progress_in new file).rest < length (progress_in old file).rest)
         → Both (told_progress told old) (told_progress now new) (GivesGroup L g)
     gives_group L g given shorter = held_both _ _ (GivesGroup L g) (λ file is less. record { on = goes-on file less; given = is }) given shorter
 
     pub gives_line : (L : LineGrammar) (g : GroupTree) (before : List L.Line) (l : L.Line)
-        → WhereHeld told old.rows.lines.name (λ file. (ps : List (ProofOf L.Line)) (p : ProofOf L.Line) → HasGivenOver L (ps ++ p ∷ []) (progress_in old file) → p.group ≡ g → p.lines ≡ before → HasGivenOver L (ps ++ with_line p l ∷ []) (progress_in new file))
-        → WhereHeld told old.rows.lines.name (λ file. length (progress_in new file).rest < length (progress_in old file).rest)
+        → IfFile told old.rows.lines.name (λ file. (ps : List (ProofOf L.Line)) (p : ProofOf L.Line) → HasGivenOver L (ps ++ p ∷ []) (progress_in old file) → p.group ≡ g → p.lines ≡ before → HasGivenOver L (ps ++ with_line p l ∷ []) (progress_in new file))
+        → IfFile told old.rows.lines.name (λ file. length (progress_in new file).rest < length (progress_in old file).rest)
         → Both (told_progress told old) (told_progress now new) (GivesLine L g before l)
     gives_line L g before l given shorter = held_both _ _ (GivesLine L g before l) (λ file is less. record { on = goes-on file less; given = is }) given shorter
 
-    pub ends_lines : WhereHeld told old.rows.lines.name (λ file. (progress_in new file ≡ progress_in old file) × ProofEnds (progress_in old file).rest) → Both (told_progress told old) (told_progress now new) EndsLines
+    pub ends_lines : IfFile told old.rows.lines.name (λ file. (progress_in new file ≡ progress_in old file) × ProofEnds (progress_in old file).rest) → Both (told_progress told old) (told_progress now new) EndsLines
     ends_lines h = held_both _ _ EndsLines (λ file is same. is) h h

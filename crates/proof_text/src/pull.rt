@@ -15,7 +15,7 @@ ghost use Rattle.proof_text.specs.Proofs.{bare, text_of_proofs_in, texts_of_proo
 ghost use Rattle.proof_text.specs.FirstProofs.{HasGiven, HasGivenOver, MayOpen, ProofEnds, with_line};
 ghost use Rattle.proof_text.specs.Answers.{NoItem, NoItemOver};
 ghost use Rattle.proof_text.specs.Pulling.{AreFresh, IfBad, Pulls, left_of, progress_in, held_text};
-ghost use Rattle.proof_text.specs.inner.PulledRows.{WhereHeld};
+ghost use Rattle.proof_text.specs.inner.PulledRows.{IfFile};
 
 use crate::line::Line;
 use crate::pull_fault::PullFault;
@@ -115,23 +115,23 @@ impl<'s> Pull<'s> {
         requires { ReadsLines W.readers (version_of self.old.version) }
         // Where it is told what the name holds.
         ensures given { IfOk result (λ found. IfSome found (λ g.
-            WhereHeld (S.contents shelf.old) self.old.rows.lines.name (λ file.
+            IfFile (S.contents shelf.old) self.old.rows.lines.name (λ file.
             (ps : Items (ProofOf W.readers.grammar.Line))
             → HasGivenOver W.readers.grammar ps (progress_in self.old file)
             → HasGivenOver W.readers.grammar (ps ++ bare (group_tree g) ∷ [])
             (progress_in self.new file)))) }
         ensures shorter { IfOk result (λ found. IfSome found (λ _.
-            WhereHeld (S.contents shelf.old) self.old.rows.lines.name (λ file.
+            IfFile (S.contents shelf.old) self.old.rows.lines.name (λ file.
             length (progress_in self.new file).rest < length (progress_in self.old file).rest))) }
         ensures end { IfOk result (λ found. IfNone found (self.old.ended ≡ false
-            → WhereHeld (S.contents shelf.old) self.old.rows.lines.name (λ file.
+            → IfFile (S.contents shelf.old) self.old.rows.lines.name (λ file.
             (ps : Items (ProofOf W.readers.grammar.Line))
             → HasGivenOver W.readers.grammar ps (progress_in self.old file)
             → held_text self.old file
             ≡ text_over W.readers.grammar (version_of self.old.version) ps))) }
         ensures bad { IfErr result (λ fault. IfBad fault (λ n.
             self.old.refused ≡ None
-            → WhereHeld (S.contents shelf.old) self.old.rows.lines.name (λ file.
+            → IfFile (S.contents shelf.old) self.old.rows.lines.name (λ file.
             (ps : Items (ProofOf W.readers.grammar.Line))
             → HasGivenOver W.readers.grammar ps (progress_in self.old file)
             → MayOpen ps (progress_in self.old file).rest
@@ -188,7 +188,7 @@ impl<'s> Pull<'s> {
             → W.Behind kept.old before
             → W.readers.grammar.Are (version_of self.old.version) before
             → IfOk result (λ found. IfSome found (λ l.
-            WhereHeld (S.contents shelf.old) self.old.rows.lines.name (λ file.
+            IfFile (S.contents shelf.old) self.old.rows.lines.name (λ file.
             (ps : Items (ProofOf W.readers.grammar.Line)) (p : ProofOf W.readers.grammar.Line)
             → HasGivenOver W.readers.grammar (ps ++ p ∷ []) (progress_in self.old file)
             → p.group ≡ group_tree group.now
@@ -197,10 +197,10 @@ impl<'s> Pull<'s> {
             (ps ++ with_line p (W.tree (group_tree group.now).code l) ∷ [])
             (progress_in self.new file)))) }
         ensures shorter { IfOk result (λ found. IfSome found (λ _.
-            WhereHeld (S.contents shelf.old) self.old.rows.lines.name (λ file.
+            IfFile (S.contents shelf.old) self.old.rows.lines.name (λ file.
             length (progress_in self.new file).rest < length (progress_in self.old file).rest))) }
         ensures end { IfOk result (λ found. IfNone found (self.old.ended ≡ false
-            → WhereHeld (S.contents shelf.old) self.old.rows.lines.name (λ file.
+            → IfFile (S.contents shelf.old) self.old.rows.lines.name (λ file.
             (progress_in self.new file ≡ progress_in self.old file)
             × ProofEnds (progress_in self.old file).rest))) }
         ensures bad { (before : Items W.readers.grammar.Line)
@@ -208,7 +208,7 @@ impl<'s> Pull<'s> {
             → W.readers.grammar.Are (version_of self.old.version) before
             → IfErr result (λ fault. IfBad fault (λ n.
             self.old.refused ≡ None
-            → WhereHeld (S.contents shelf.old) self.old.rows.lines.name (λ file.
+            → IfFile (S.contents shelf.old) self.old.rows.lines.name (λ file.
             (ps : Items (ProofOf W.readers.grammar.Line)) (p : ProofOf W.readers.grammar.Line)
             → HasGivenOver W.readers.grammar (ps ++ p ∷ []) (progress_in self.old file)
             → p.group ≡ group_tree group.now
@@ -270,21 +270,21 @@ impl<'s> Pull<'s> {
     ) -> Result<Option<Group>, PullFault>
         // Where it is told what the name holds.
         ensures given { IfOk result (λ found. IfSome found (λ g.
-            WhereHeld (S.contents shelf.old) self.old.rows.lines.name (λ file.
+            IfFile (S.contents shelf.old) self.old.rows.lines.name (λ file.
             (ps : Items ProofTree)
             → HasGiven ps (progress_in self.old file)
             → HasGiven (ps ++ bare (group_tree g) ∷ []) (progress_in self.new file)))) }
         ensures shorter { IfOk result (λ found. IfSome found (λ _.
-            WhereHeld (S.contents shelf.old) self.old.rows.lines.name (λ file.
+            IfFile (S.contents shelf.old) self.old.rows.lines.name (λ file.
             length (progress_in self.new file).rest < length (progress_in self.old file).rest))) }
         ensures end { IfOk result (λ found. IfNone found (self.old.ended ≡ false
-            → WhereHeld (S.contents shelf.old) self.old.rows.lines.name (λ file.
+            → IfFile (S.contents shelf.old) self.old.rows.lines.name (λ file.
             (ps : Items ProofTree)
             → HasGiven ps (progress_in self.old file)
             → held_text self.old file ≡ text_of_proofs_in (version_of self.old.version) ps))) }
         ensures bad { IfErr result (λ fault. IfBad fault (λ n.
             self.old.refused ≡ None
-            → WhereHeld (S.contents shelf.old) self.old.rows.lines.name (λ file.
+            → IfFile (S.contents shelf.old) self.old.rows.lines.name (λ file.
             (ps : Items ProofTree)
             → HasGiven ps (progress_in self.old file)
             → MayOpen ps (progress_in self.old file).rest
@@ -312,21 +312,21 @@ impl<'s> Pull<'s> {
         requires { IsGroupIn (version_of self.old.version) (group_tree group.now) }
         // Where it is told what the name holds.
         ensures given { IfOk result (λ found. IfSome found (λ l.
-            WhereHeld (S.contents shelf.old) self.old.rows.lines.name (λ file.
+            IfFile (S.contents shelf.old) self.old.rows.lines.name (λ file.
             (ps : Items ProofTree) (p : ProofTree)
             → HasGiven (ps ++ p ∷ []) (progress_in self.old file)
             → p.group ≡ group_tree group.now
             → HasGiven (ps ++ with_line p (line_tree l) ∷ []) (progress_in self.new file)))) }
         ensures shorter { IfOk result (λ found. IfSome found (λ _.
-            WhereHeld (S.contents shelf.old) self.old.rows.lines.name (λ file.
+            IfFile (S.contents shelf.old) self.old.rows.lines.name (λ file.
             length (progress_in self.new file).rest < length (progress_in self.old file).rest))) }
         ensures end { IfOk result (λ found. IfNone found (self.old.ended ≡ false
-            → WhereHeld (S.contents shelf.old) self.old.rows.lines.name (λ file.
+            → IfFile (S.contents shelf.old) self.old.rows.lines.name (λ file.
             (progress_in self.new file ≡ progress_in self.old file)
             × ProofEnds (progress_in self.old file).rest))) }
         ensures bad { IfErr result (λ fault. IfBad fault (λ n.
             self.old.refused ≡ None
-            → WhereHeld (S.contents shelf.old) self.old.rows.lines.name (λ file.
+            → IfFile (S.contents shelf.old) self.old.rows.lines.name (λ file.
             (ps : Items ProofTree) (p : ProofTree)
             → HasGiven (ps ++ p ∷ []) (progress_in self.old file)
             → p.group ≡ group_tree group.now

@@ -11,7 +11,7 @@ ghost use Rattle.group_text.specs.declared.read_error.RowError.TheVariants.{NoMe
 ghost use Rattle.group_text.specs.inner.Rows.{row_error};
 ghost use Rattle.proof_text.specs.inner.LineReaders.{ReadsLines, turn_over};
 ghost use Rattle.proof_text.specs.inner.OwnCode.{IsOwnCode};
-ghost use Rattle.proof_text.specs.inner.PulledRows.{Draws, EndsSo, WhereHeld, not_passed, rows_left};
+ghost use Rattle.proof_text.specs.inner.PulledRows.{Draws, EndsSo, IfFile, not_passed, rows_left};
 ghost use Rattle.proof_text.specs.inner.Pulling.{EndsBehind, ReadFrom, StoppedAt, fault_lost, pull_lost};
 
 use crate::line_turns::read_turn as read_line_turn;
@@ -81,12 +81,12 @@ fn read_end<S: Shelf>(
     ensures none { IfOk result (λ found. found ≡ None) }
     ensures end { IfOk result (λ _.
         rows.old.lines.refused ≡ None
-        → WhereHeld (S.contents shelf.old) rows.old.lines.name (λ file.
+        → IfFile (S.contents shelf.old) rows.old.lines.name (λ file.
         EndsSo true (not_passed rows.old file))) }
     ensures more { IfErr result (λ fault. IfBad fault (λ n.
         (n ≡ rows.old.taken + 1)
         × (rows.old.lines.refused ≡ None
-        → WhereHeld (S.contents shelf.old) rows.old.lines.name (λ file.
+        → IfFile (S.contents shelf.old) rows.old.lines.name (λ file.
         EndsSo false (not_passed rows.old file))))) }
     ensures draws { Draws S.contents S.read_faults S.write_faults S.IsSure (pull_lost result)
         rows.old shelf.old rows.new shelf.new }
@@ -110,15 +110,15 @@ pub(crate) fn next_group<S: Shelf>(
 ) -> Result<Option<Group>, PullFault>
     requires { rows.old.lines.refused ≡ None }
     ensures given { IfOk result (λ found. IfSome found (λ g.
-        WhereHeld (S.contents shelf.old) rows.old.lines.name
+        IfFile (S.contents shelf.old) rows.old.lines.name
         (ReadFrom (turn_at (version_of version) first) (Some (group_tree g)) rows.old rows.new))) }
     ensures fits { IfOk result (λ found.
         IfSome found (λ g. IsGroupIn (version_of version) (group_tree g))) }
     ensures end { IfOk result (λ found.
-        IfNone found (WhereHeld (S.contents shelf.old) rows.old.lines.name (λ file.
+        IfNone found (IfFile (S.contents shelf.old) rows.old.lines.name (λ file.
         (n : ℕ) × EndsBehind (turn_at (version_of version) first) rows.old file n (EndsSo true)))) }
     ensures bad { IfErr result (λ fault. IfBad fault (λ n.
-        WhereHeld (S.contents shelf.old) rows.old.lines.name (λ file.
+        IfFile (S.contents shelf.old) rows.old.lines.name (λ file.
         StoppedAt (turn_at (version_of version) first) rows.old n file
         ⊎ ((m : ℕ)
         × (n ≡ m + 1)
@@ -153,7 +153,7 @@ pub(crate) fn next_line<S: Shelf, W: ReadLines>(
         → W.Behind kept.old before
         → W.readers.grammar.Are (version_of version) before
         → IfOk result (λ found. IfSome found (λ l.
-        WhereHeld (S.contents shelf.old) rows.old.lines.name
+        IfFile (S.contents shelf.old) rows.old.lines.name
         (ReadFrom (turn_over W.readers (version_of version) own.now.ranges before)
         (Some (W.tree own.now.ranges l)) rows.old rows.new))) }
     ensures behind { (before : List W.readers.grammar.Line)
@@ -169,14 +169,14 @@ pub(crate) fn next_line<S: Shelf, W: ReadLines>(
         → W.Behind kept.old before
         → W.readers.grammar.Are (version_of version) before
         → IfOk result (λ found.
-        IfNone found (WhereHeld (S.contents shelf.old) rows.old.lines.name
+        IfNone found (IfFile (S.contents shelf.old) rows.old.lines.name
         (ReadFrom (turn_over W.readers (version_of version) own.now.ranges before) None rows.old
         rows.new))) }
     ensures bad { (before : List W.readers.grammar.Line)
         → W.Behind kept.old before
         → W.readers.grammar.Are (version_of version) before
         → IfErr result (λ fault. IfBad fault (λ n.
-        WhereHeld (S.contents shelf.old) rows.old.lines.name
+        IfFile (S.contents shelf.old) rows.old.lines.name
         (StoppedAt (turn_over W.readers (version_of version) own.now.ranges before) rows.old n))) }
     ensures kept { IfErr result (λ _.
         (before : List W.readers.grammar.Line)

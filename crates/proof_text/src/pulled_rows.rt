@@ -5,7 +5,7 @@ ghost use Rattle.mc_shelf.specs.Lines.{up_to_newline};
 ghost use Rattle.mc_text.specs.Fault.{newlines};
 ghost use Rattle.group_text.specs.inner.Rows.{IsRow};
 ghost use Rattle.group_text.specs.inner.Rows.{lost_by};
-ghost use Rattle.proof_text.specs.inner.PulledRows.{Draws, EndsSo, KeepsLine, WhereHeld, not_passed, rows_left};
+ghost use Rattle.proof_text.specs.inner.PulledRows.{Draws, EndsSo, KeepsLine, IfFile, not_passed, rows_left};
 
 use group_text::{RowError, Rows};
 use mc_shelf::{LineFault, Lines, Shelf};
@@ -88,7 +88,7 @@ impl<'s> PulledRows<'s> {
     pub fn at_end<S: Shelf>(&mut self, alloc: Global, from: &mut S) -> Result<bool, RowError>
         ensures told { IfOk result (λ end.
             self.old.lines.refused ≡ None
-            → WhereHeld (S.contents from.old) self.old.lines.name (λ file.
+            → IfFile (S.contents from.old) self.old.lines.name (λ file.
             EndsSo end (not_passed self.old file))) }
         ensures draws { Draws S.contents S.read_faults S.write_faults S.IsSure (lost_by result)
             self.old from.old self.new from.new }

@@ -29,7 +29,7 @@ accepted-in F keeps Two few file text w says accepts gs l = listed-right Two fil
 accepted-in F keeps Three few file text w says accepts gs l = listed-right Three file text gs l (accepted-headline F keeps Three few file text w says accepts l.proofs (record { fit = l.spelled.fit; spelled = l.spelled.spelled }))
 accepted-in F keeps Four few file text w says accepts gs l = listed-right Four file text gs l (accepted-headline F keeps Four few file text w says accepts l.proofs (record { fit = l.spelled.fit; spelled = l.spelled.spelled }))
 
--- a verdict that says what is so comes, but for want of memory
+-- a verdict that says what is so comes, but for lack of memory
 pub verdict-comes-in : (F : FurtherRule) (k : Known) (file text : List ℕ) (w : Verdict) → SaysIn F k file text w → (v : Verdict) → SaysIn F k file text v
     → (w ≡ v) ⊎ (v ≡ verdict.NoMemory) ⊎ (w ≡ verdict.NoMemory)
 verdict-comes-in F One file text = verdict-comes F One file text
@@ -44,7 +44,7 @@ accepted-lists F Two file text functions lines h = (groups_of h.proofs, record {
 accepted-lists F Three file text functions lines h = (groups_of h.proofs, record { proofs = h.proofs; spelled = record { fit = h.spelled.fit; spelled = h.spelled.spelled }; groups = refl })
 accepted-lists F Four file text functions lines h = (groups_of h.proofs, record { proofs = h.proofs; spelled = record { fit = h.spelled.fit; spelled = h.spelled.spelled }; groups = refl })
 
--- want of memory says nothing
+-- lack of memory says nothing
 pub says-nothing : (F : FurtherRule) (k : Known) (file text : List ℕ) → SaysIn F k file text verdict.NoMemory
 says-nothing F One file text = tt
 says-nothing F Two file text = tt

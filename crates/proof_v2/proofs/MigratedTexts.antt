@@ -44,7 +44,7 @@ no-acceptance (verdict.BadLine n) never h = h
 no-acceptance (verdict.NotProved g) never h = h
 no-acceptance verdict.NoMemory never h = h
 
--- where it is accepted, none but for want of memory
+-- where it is accepted, none but for lack of memory
 pub not-refused : (f l : ℕ) (checked v : Verdict) → checked ≡ verdict.Accepted f l → (IsAcceptance v → ⊥) → (checked ≡ v) ⊎ (v ≡ verdict.NoMemory) ⊎ (checked ≡ verdict.NoMemory) → v ≡ verdict.NoMemory
 not-refused f l checked v is never (inl e) = absurd (never (subst IsAcceptance (sym is ∙ e) tt))
 not-refused f l checked v is never (inr (inl e)) = e

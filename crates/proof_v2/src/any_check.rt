@@ -8,7 +8,7 @@ ghost use Rattle.tailrec_lang.specs.Tree.{GroupTree};
 ghost use Rattle.group_text.specs.declared.version.Version.TheVariants.{One};
 ghost use Rattle.proof_text.specs.FirstProofs.{HasGiven};
 ghost use Rattle.proof_text.specs.Pulling.{held_text, left_of, progress_in};
-ghost use Rattle.proof_text.specs.inner.PulledRows.{WhereHeld};
+ghost use Rattle.proof_text.specs.inner.PulledRows.{IfFile};
 ghost use Rattle.claims.specs.Headline.{Headline};
 ghost use Rattle.checker.specs.Instance.{no_rule};
 ghost use Rattle.checker.specs.Pulled.{IfVerdict, is_outside};
@@ -37,7 +37,7 @@ pub fn check_any_bytes(alloc: Global, elf: &[u8], proof: &[u8]) -> Verdict
         → ListsIn (any_version proof.now) proof.now gs
         → Headline elf.now gs }
 
-    // A verdict that says what is so comes, but for want of memory.
+    // A verdict that says what is so comes, but for lack of memory.
     ensures exact { (v : VerdictOf)
         → SaysAny elf.now proof.now v
         → (result ≡ v) ⊎ (v ≡ Verdict.NoMemory) ⊎ (result ≡ Verdict.NoMemory) }
@@ -76,7 +76,7 @@ pub fn check_pulled_any<S: Shelf>(
     ensures verdict { (elf : Items ℕ)
         → IsReadable elf
         → image.now ≡ image_of elf
-        → IfVerdict result (λ v. WhereHeld (S.contents shelf.old) pull.old.rows.lines.name
+        → IfVerdict result (λ v. IfFile (S.contents shelf.old) pull.old.rows.lines.name
         (λ file. SaysIn no_rule version elf (held_text pull.old file) v)) }
 
     // Over every shelf: it only reads, and tells a fault only where one was counted.
@@ -103,16 +103,16 @@ pub fn check_any<S: Shelf>(
 
     // Where it is told what the name holds: what the verdict says of the files, that the functions
     // of a text that is accepted are right, and that a verdict that says what is so comes, but for
-    // want of memory.
+    // out of memory.
     ensures verdict { (elf : Items ℕ)
         → IsReadable elf
         → image.now ≡ image_of elf
         → IfVerdict result (λ v.
-        WhereHeld (S.contents shelf.old) name.now (λ file. SaysAny elf (take size file) v)) }
+        IfFile (S.contents shelf.old) name.now (λ file. SaysAny elf (take size file) v)) }
     ensures headline { (elf : Items ℕ)
         → IsReadable elf
         → image.now ≡ image_of elf
-        → IfVerdict result (λ v. WhereHeld (S.contents shelf.old) name.now (λ file.
+        → IfVerdict result (λ v. IfFile (S.contents shelf.old) name.now (λ file.
         IsAcceptance v
         → (gs : Items GroupTree)
         → ListsIn (any_version (take size file)) (take size file) gs
@@ -120,7 +120,7 @@ pub fn check_any<S: Shelf>(
     ensures exact { (elf : Items ℕ)
         → IsReadable elf
         → image.now ≡ image_of elf
-        → IfVerdict result (λ w. WhereHeld (S.contents shelf.old) name.now (λ file.
+        → IfVerdict result (λ w. IfFile (S.contents shelf.old) name.now (λ file.
         (v : VerdictOf)
         → SaysAny elf (take size file) v
         → (w ≡ v) ⊎ (v ≡ Verdict.NoMemory) ⊎ (w ≡ Verdict.NoMemory))) }

@@ -46,7 +46,7 @@ pub fn migrate(alloc: Global, elf: &[u8], proof: &[u8]) -> Result<Bytes, Verdict
     // The verdict that refuses it says what is so.
     ensures refused { IfErr result (λ v. Says elf.now proof.now v × (IsAcceptance v → ⊥)) }
 
-    // A verdict that refuses it and says what is so comes, but for want of memory.
+    // A verdict that refuses it and says what is so comes, but for lack of memory.
     ensures exact { (v : VerdictOf)
         → Says elf.now proof.now v
         → (IsAcceptance v → ⊥)

@@ -3,7 +3,7 @@
 ghost use Rattle.std.specs.Prelude.{◌≡◌, ◌≤◌, ◌⊎◌, ◌↔◌, ℕ, List as Items, IfOk, IsErrOf, IsTrue, take};
 ghost use Rattle.group_text.specs.declared.version.Version.TheVariants.{Two};
 ghost use Rattle.mc_shelf.specs.inner.OnlyReads.{OnlyReads};
-ghost use Rattle.proof_text.specs.inner.PulledRows.{WhereHeld};
+ghost use Rattle.proof_text.specs.inner.PulledRows.{IfFile};
 ghost use Rattle.proof_v2.specs.Titles.{any_version, named_version};
 
 use group_text::Version;
@@ -76,7 +76,7 @@ pub fn held_version<S: Shelf>(
     size: u64,
     shelf: &mut S,
 ) -> Result<Version, LineFault>
-    ensures named { IfOk result (λ version. WhereHeld (S.contents shelf.old) name.now
+    ensures named { IfOk result (λ version. IfFile (S.contents shelf.old) name.now
         (λ file. version ≡ named_version (take size file))) }
     ensures shelf { OnlyReads S.contents S.read_faults S.write_faults S.IsSure
         (IsErrOf result LineFault.Fault) name.now shelf.old shelf.new }

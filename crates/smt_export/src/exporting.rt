@@ -71,7 +71,7 @@ pub fn export(alloc: Global, g: &Group, def: u32) -> Result<Script, ExportFault>
 
 /// The script of a definition that reaches none that enters itself again; the marks are those of
 /// the definitions that it reaches. A group of which a definition has 2^64 variables or 2^32 exits
-/// has none, which is told as want of memory.
+/// has none, which is answered as out of memory.
 fn loop_free(alloc: Global, g: &Group, def: usize, marks: &[bool]) -> Result<Script, NoMemory>
     requires well_formed { IsWellFormed (group_tree g.now) }
     requires there { def < length g.now.defs }

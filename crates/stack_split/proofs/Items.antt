@@ -25,7 +25,7 @@ use Rattle.loop_forest.specs.Forest.{ForestOf, IsForestOf, number_of}
 use Rattle.code_parts.specs.declared.callee.Callee.{Callee}
 use Rattle.code_parts.specs.declared.part.Part.{Part}
 use Rattle.code_parts.specs.Bodies.{Flow, part_def}
-use Rattle.code_parts.specs.Flows.{AreCodeOf, HaveCode, flow_of, function_at, group_of, setting_of}
+use Rattle.code_parts.specs.Flows.{AreCodeOf, HaveCode, flow_of, function_at, group_of, context_of}
 use Rattle.code_parts.specs.Graph.{IsMade, IsSmall}
 use Rattle.code_parts.specs.Members.{AreMembers, IsMember, Member, callee_at, flow_at}
 use Rattle.code_parts.specs.Order.{AreParts}
@@ -63,16 +63,16 @@ uses-split : (code : Bytes) (e : ℕ) (addrs second : List ℕ) → AreStackAcce
 uses-split code e addrs second are a node true is = inl (refl, ((are a).0 (in-contains second a is)).1)
 uses-split code e addrs second are a node false is = inr (refl, λ access. let there = sym is ∙ in-true second a ((are a).1 (node, access)) in cc)
 
--- ---- the function in its setting
+-- ---- the function in its context
 
 module _ (code : Bytes) (e : ℕ) (g : GraphOf) (f : ForestOf) (second : List ℕ) (parts : List Part) (bytes : AreBytes code) (graph : IsGraphOf false code e g) (forest : IsForestOf g f)
-    (order : AreParts (flow_of g f (setting_of (split g second parts))) (number_of f) parts) (ranges : List Range) (whole : AreCodeOf g ranges) (name : List ℕ)
+    (order : AreParts (flow_of g f (context_of (split g second parts))) (number_of f) parts) (ranges : List Range) (whole : AreCodeOf g ranges) (name : List ℕ)
   where
     abbrev the_flow : Flow
-    the_flow = flow_of g f (setting_of (split g second parts))
+    the_flow = flow_of g f (context_of (split g second parts))
 
     abbrev the_group : GroupTree
-    the_group = group_of (flow_of g f (setting_of (split g second parts))) name ranges parts
+    the_group = group_of (flow_of g f (context_of (split g second parts))) name ranges parts
 
     have : HaveCode g code ranges
     have = have_code false g (record { code = code; entry = e; bytes = bytes; is = graph }) ranges whole
@@ -84,11 +84,11 @@ module _ (code : Bytes) (e : ℕ) (g : GraphOf) (f : ForestOf) (second : List �
         let stands = graph_stands false code e g n (get_or g.instrs n instr.Ebreak) graph node (slice_get-get_or g.instrs n instr.Ebreak (omega (arith, node, long))) in
         uncalled-of (get_or g.addrs n 0) (get_or g.instrs n instr.Ebreak) stands.fine
 
-    made : IsMade (flow_of g f (setting_of (split g second parts))) (group_of (flow_of g f (setting_of (split g second parts))) name ranges parts) parts
-    made = made-split code e g f second parts graph name ranges forest (is-code false code e g f (setting_of (split g second parts)) ranges graph forest bytes have (set-split g second parts)) order
+    made : IsMade (flow_of g f (context_of (split g second parts))) (group_of (flow_of g f (context_of (split g second parts))) name ranges parts) parts
+    made = made-split code e g f second parts graph name ranges forest (is-code false code e g f (context_of (split g second parts)) ranges graph forest bytes have (set-split g second parts)) order
 
-    small : IsSmall (flow_of g f (setting_of (split g second parts)))
-    small = is-small false code e g f (setting_of (split g second parts)) graph forest order (set-split g second parts) (omega arith) (omega arith) (λ n c own. called (called_by (get_or g.addrs n 0) (get_or g.instrs n instr.Ebreak)) c own)
+    small : IsSmall (flow_of g f (context_of (split g second parts)))
+    small = is-small false code e g f (context_of (split g second parts)) graph forest order (set-split g second parts) (omega arith) (omega arith) (λ n c own. called (called_by (get_or g.addrs n 0) (get_or g.instrs n instr.Ebreak)) c own)
       where
         called : (o : Option ℕ) (c : Callee) → option_map (λ a. function_at [] a) o ≡ Some c → c.def < 2 ^ 32
         called None c own = absurd (cc)
@@ -98,19 +98,19 @@ module _ (code : Bytes) (e : ℕ) (g : GraphOf) (f : ForestOf) (second : List �
     within = code_in false g (record { code = code; entry = e; bytes = bytes; is = graph }) ranges whole
 
     abbrev the_member : Member
-    the_member = record { at = e; graph = g; forest = f; setting = setting_of (split g second parts) }
+    the_member = record { at = e; graph = g; forest = f; context = context_of (split g second parts) }
 
     -- the function is the one of the group
     member : AreMembers false code (the_member ∷ []) the_member the_group
     member = record {
       listed = (0, omega arith, refl);
       each = λ m c. subst (λ (m : Member). IsMember false code ranges m) (only m c) (record { graph = graph; forest = forest; order = order; fits = set-split g second parts; bytes = have });
-      regs = λ m c. subst (λ (m : Member). m.setting.regs ≡ the_group.regs) (only m c) refl;
-      mems = λ m c. subst (λ (m : Member). m.setting.mems ≡ the_group.mems) (only m c) refl;
-      defs = λ m k p c. subst (λ (m : Member). slice_get m.setting.parts k ≡ Some p → slice_get the_group.defs (m.setting.base + k) ≡ Some (part_def (flow_at m) p)) (only m c)
+      regs = λ m c. subst (λ (m : Member). m.context.regs ≡ the_group.regs) (only m c) refl;
+      mems = λ m c. subst (λ (m : Member). m.context.mems ≡ the_group.mems) (only m c) refl;
+      defs = λ m k p c. subst (λ (m : Member). slice_get m.context.parts k ≡ Some p → slice_get the_group.defs (m.context.base + k) ≡ Some (part_def (flow_at m) p)) (only m c)
           (λ at. ap (slice_get the_group.defs) (zero-add k) ∙ slice-mapped (part_def the_flow) parts k p at);
       called = λ m n t c. subst (λ (m : Member). n < length m.graph.addrs → called_by (get_or m.graph.addrs n 0) (get_or m.graph.instrs n instr.Ebreak) ≡ Some t
-          → (y : Member) × Contains (the_member ∷ []) y × (m.setting.functions t ≡ callee_at y)) (only m c) (λ node own. absurd (let none = sym (uncalled n node) ∙ own in cc));
+          → (y : Member) × Contains (the_member ∷ []) y × (m.context.functions t ≡ callee_at y)) (only m c) (λ node own. absurd (let none = sym (uncalled n node) ∙ own in cc));
       last = (let long = length-map (part_def the_flow) parts in omega (arith, long));
     }
       where
@@ -123,11 +123,11 @@ module _ (code : Bytes) (e : ℕ) (g : GraphOf) (f : ForestOf) (second : List �
     pub lists-split : ListsWith AreTwo code e g name the_group
     lists-split = record {
       named = refl;
-      entry = lists-entry false code e g f (setting_of (split g second parts)) graph forest order name ranges;
+      entry = lists-entry false code e g f (context_of (split g second parts)) graph forest order name ranges;
       bytes = bytes_are false g (record { code = code; entry = e; bytes = bytes; is = graph }) ranges whole;
       registers = registers_are false g (record { code = code; entry = e; bytes = bytes; is = graph });
       memory = refl;
-      defs = defs_are false g (record { code = code; entry = e; bytes = bytes; is = graph }) f forest (setting_of (split g second parts)) order;
+      defs = defs_are false g (record { code = code; entry = e; bytes = bytes; is = graph }) f forest (context_of (split g second parts)) order;
     }
 
     pub printed-split : IsName name → IsGroupIn version_4 the_group
@@ -138,38 +138,38 @@ module _ (code : Bytes) (e : ℕ) (g : GraphOf) (f : ForestOf) (second : List �
       code = whole.order;
       bytes = ranges_small 0 ranges whole.order (λ a b le at. bytes a b (within a b at));
       defs = all parts;
-      some = (let last = last-is false code e g f (setting_of (split g second parts)) graph forest order in let long = length-map (part_def the_flow) parts in omega (arith, last, long));
-      few = (let fit = parts-fit false code e g f (setting_of (split g second parts)) graph forest order in let long = length-map (part_def the_flow) parts in omega (arith, fit, long));
+      some = (let last = last-is false code e g f (context_of (split g second parts)) graph forest order in let long = length-map (part_def the_flow) parts in omega (arith, last, long));
+      few = (let fit = parts-fit false code e g f (context_of (split g second parts)) graph forest order in let long = length-map (part_def the_flow) parts in omega (arith, fit, long));
     }
       where
-        all : (ps : List Part) → AllByRecursion IsDef (map (part_def (flow_of g f (setting_of (split g second parts)))) ps)
+        all : (ps : List Part) → AllByRecursion IsDef (map (part_def (flow_of g f (context_of (split g second parts)))) ps)
         all [] = tt
-        all (p ∷ ps) = (part-printed (flow_of g f (setting_of (split g second parts))) small p, all ps)
+        all (p ∷ ps) = (part-printed (flow_of g f (context_of (split g second parts))) small p, all ps)
 
 module _ (file name : List ℕ) (e : ℕ) (g : GraphOf) (f : ForestOf) (second : List ℕ) (parts : List Part) (bytes : AreBytes (code_of_file file)) (graph : IsGraphOf false (code_of_file file) e g) (forest : IsForestOf g f)
-    (order : AreParts (flow_of g f (setting_of (split g second parts))) (number_of f) parts) (ranges : List Range) (whole : AreCodeOf g ranges)
+    (order : AreParts (flow_of g f (context_of (split g second parts))) (number_of f) parts) (ranges : List Range) (whole : AreCodeOf g ranges)
   where
-    pub accepted-split : (lines : List LineTree) → AreClosedIn Four (group_of (flow_of g f (setting_of (split g second parts))) name ranges parts) lines
-        → IsAcceptedBy IsExchanged file (record { group = group_of (flow_of g f (setting_of (split g second parts))) name ranges parts; lines = lines })
+    pub accepted-split : (lines : List LineTree) → AreClosedIn Four (group_of (flow_of g f (context_of (split g second parts))) name ranges parts) lines
+        → IsAcceptedBy IsExchanged file (record { group = group_of (flow_of g f (context_of (split g second parts))) name ranges parts; lines = lines })
     accepted-split lines closed =
-        let last = last-is false (code_of_file file) e g f (setting_of (split g second parts)) graph forest order in
-        let count : length (map (part_def (flow_of g f (setting_of (split g second parts)))) parts) ≡ length parts = length-map (part_def (flow_of g f (setting_of (split g second parts)))) parts in
+        let last = last-is false (code_of_file file) e g f (context_of (split g second parts)) graph forest order in
+        let count : length (map (part_def (flow_of g f (context_of (split g second parts)))) parts) ≡ length parts = length-map (part_def (flow_of g f (context_of (split g second parts)))) parts in
         record {
-          well_formed = group-formed (flow_of g f (setting_of (split g second parts))) (group_of (flow_of g f (setting_of (split g second parts))) name ranges parts) parts
-              (is-graph false (code_of_file file) e g f (setting_of (split g second parts)) graph forest) (made (code_of_file file) e g f second parts bytes graph forest order ranges whole name);
+          well_formed = group-formed (flow_of g f (context_of (split g second parts))) (group_of (flow_of g f (context_of (split g second parts))) name ranges parts) parts
+              (is-graph false (code_of_file file) e g f (context_of (split g second parts)) graph forest) (made (code_of_file file) e g f second parts bytes graph forest order ranges whole name);
           lines = closed.right;
-          proved = record { closed = closed.closed (length (map (part_def (flow_of g f (setting_of (split g second parts)))) parts) - 1) (omega (arith, last, count)); code = within (code_of_file file) e g f second parts bytes graph forest order ranges whole name };
+          proved = record { closed = closed.closed (length (map (part_def (flow_of g f (context_of (split g second parts)))) parts) - 1) (omega (arith, last, count)); code = within (code_of_file file) e g f second parts bytes graph forest order ranges whole name };
         }
 
     pub made-alone : AreStackAccesses (code_of_file file) e g.addrs second
-        → AreDefsAlone (UsesSplit (code_of_file file) e) (code_of_file file) e g (group_of (flow_of g f (setting_of (split g second parts))) name ranges parts)
+        → AreDefsAlone (UsesSplit (code_of_file file) e) (code_of_file file) e g (group_of (flow_of g f (context_of (split g second parts))) name ranges parts)
     made-alone are =
-        defs_alone (UsesSplit (code_of_file file) e) (code_of_file file) e g f (setting_of (split g second parts)) (group_of (flow_of g f (setting_of (split g second parts))) name ranges parts) graph forest order refl refl refl
+        defs_alone (UsesSplit (code_of_file file) e) (code_of_file file) e g f (context_of (split g second parts)) (group_of (flow_of g f (context_of (split g second parts))) name ranges parts) graph forest order refl refl refl
         (λ n lt. uses-split (code_of_file file) e g.addrs second are (get_or g.addrs n 0) (node_at g.addrs n lt) (list_any (λ b. eqb b (get_or g.addrs n 0)) second) refl) refl
 
-    pub gains-split : AreStackAccesses (code_of_file file) e g.addrs second → Returning (FirstReturnsIn (UsesSplit (code_of_file file) e)) file (group_of (flow_of g f (setting_of (split g second parts))) name ranges parts)
+    pub gains-split : AreStackAccesses (code_of_file file) e g.addrs second → Returning (FirstReturnsIn (UsesSplit (code_of_file file) e)) file (group_of (flow_of g f (context_of (split g second parts))) name ranges parts)
     gains-split are =
-        member-gains file bytes (record { at = e; graph = g; forest = f; setting = setting_of (split g second parts) }) (group_of (flow_of g f (setting_of (split g second parts))) name ranges parts)
+        member-gains file bytes (record { at = e; graph = g; forest = f; context = context_of (split g second parts) }) (group_of (flow_of g f (context_of (split g second parts))) name ranges parts)
         (member (code_of_file file) e g f second parts bytes graph forest order ranges whole name) (UsesSplit (code_of_file file) e)
         (λ n lt. uses-split (code_of_file file) e g.addrs second are (get_or g.addrs n 0) (node_at g.addrs n lt) (list_any (λ b. eqb b (get_or g.addrs n 0)) second) refl)
         (within (code_of_file file) e g f second parts bytes graph forest order ranges whole name)

@@ -46,7 +46,7 @@ def-there (d ∷ ds) (suc n) lt = def-there ds n (omega arith)
 ill-formed : (g : GroupTree) (d : ℕ) → IsFirstIllFormed g d → IsWellFormed g → ⊥
 ill-formed g d first well = let x = def-there g.defs d first.there in first.here x.0 x.1 (well d x.0 x.1)
 
--- a verdict is want of memory, or it isn't
+-- a verdict is `NoMemory`, or it isn't
 or-memory : (v : Verdict) → (v ≡ verdict.NoMemory) ⊎ (v ≡ verdict.NoMemory → ⊥)
 or-memory (verdict.Accepted functions lines) = inr (λ e. cc)
 or-memory (verdict.BadElf why) = inr (λ e. cc)
@@ -247,11 +247,11 @@ module _ (known : KnownTexts) (J : LineRules known.readers.grammar)
   case-once file text v w (inr h) (inl (y, k, is)) = absurd (none-fault y (sym h.0 ∙ k))
   case-once file text v w (inr h) (inr k) = text-once file text v w h.1 k.1
 
-  -- where neither is want of memory
+  -- where neither is `NoMemory`
   pub verdict_once : (file text : List ℕ) (v w : Verdict) → (v ≡ verdict.NoMemory → ⊥) → (w ≡ verdict.NoMemory → ⊥) → SaysOver J (version known) file text v → SaysOver J (version known) file text w → v ≡ w
   verdict_once file text v w determined determined' h k = case-once file text v w (file-case file text v determined h) (file-case file text w determined' k)
 
-  -- a verdict that says what is so comes, but for want of memory
+  -- a verdict that says what is so comes, but for lack of memory
   pub verdict_comes : (file text : List ℕ) (w : Verdict) → SaysOver J (version known) file text w → (v : Verdict) → SaysOver J (version known) file text v → (w ≡ v) ⊎ (v ≡ verdict.NoMemory) ⊎ (w ≡ verdict.NoMemory)
   verdict_comes file text w said v h =
       ⊎_elim

@@ -127,7 +127,7 @@ one-history : (g : GroupTree) (before : List ShortLine) (h : History) (l : Short
 one-history g before h (Term n) a b x y = x ∙ sym y
 one-history g before h (Proof s) a b x y = x.2 ∙ ap (λ (l : LineTree). after_line h l) (one_line g h (table_of before) s x.0 y.0 x.1 y.1) ∙ sym y.2
 
--- a verdict that says what is so comes, but for want of memory
+-- a verdict that says what is so comes, but for lack of memory
 pub short_comes : (file text : List ℕ) (w : Verdict) → SaysOver short_rules version_2 file text w → (v : Verdict) → SaysOver short_rules version_2 file text v → (w ≡ v) ⊎ (v ≡ verdict.NoMemory) ⊎ (w ≡ verdict.NoMemory)
 short_comes = verdict_comes shorts_known short_rules one-history
 

@@ -117,7 +117,7 @@ impl Asked {
     }
 
     /// Notes that the fact of a theorem is at that place of the way. A place that got no stamp was
-    /// left without for want of memory.
+    /// left without for lack of memory.
     pub fn note(&self, places: &mut Places, place: usize, fact: usize) -> Result<(), NoMemory>
         ensures { OnOk result ((way facts : Items FactTree) (f : FactTree) (rest : Items ℕ)
             → slice_get facts fact ≡ Just f

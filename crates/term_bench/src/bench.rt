@@ -169,7 +169,7 @@ impl<'g> Bench<'g> {
 
     /// Judges the next line of a text with that further rule. After a refusal the theorems and the
     /// closed definitions are as before; the arena may have more terms. A theorem whose number's
-    /// successor has more than 64 bits is refused as for want of memory. A line by `frame`,
+    /// successor has more than 64 bits is refused as for lack of memory. A line by `frame`,
     /// `compose` or `extend` takes at most a step for each node of the triple that it states, and
     /// one that forgets takes none. One by any other rule takes at most one for each node of its
     /// terms and 4 (T + 1)^2 more, where T is how many different terms its triple and the theorem

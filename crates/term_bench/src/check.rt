@@ -10,7 +10,7 @@ ghost use Rattle.proof_text.specs.FirstProofs.{HasGiven};
 ghost use Rattle.proof_text.specs.Line.{ProofTree};
 ghost use Rattle.proof_text.specs.Proofs.{groups_of};
 ghost use Rattle.proof_text.specs.Pulling.{held_text, left_of, progress_in};
-ghost use Rattle.proof_text.specs.inner.PulledRows.{WhereHeld};
+ghost use Rattle.proof_text.specs.inner.PulledRows.{IfFile};
 ghost use Rattle.checker.specs.declared.verdict.Verdict.{Verdict as VerdictOf};
 ghost use Rattle.claims.specs.Headline.{Headline};
 ghost use Rattle.checker.specs.Pulled.{IfVerdict, as_verdict, is_outside};
@@ -47,7 +47,7 @@ pub fn check_numbered<R: HeldRule>(
         → IsTextOfIn (version_of reader.old.version) reader.old.text ps
         → Headline elf.now (groups_of ps) }
 
-    // A verdict that says what is so comes, but for want of memory.
+    // A verdict that says what is so comes, but for lack of memory.
     ensures exact { (v : VerdictOf)
         → SaysBy R.states (version_of reader.old.version) elf.now reader.old.text v
         → (result ≡ v) ⊎ (v ≡ Verdict.NoMemory) ⊎ (result ≡ Verdict.NoMemory) }
@@ -126,18 +126,18 @@ pub fn check_pulled_numbered<S: Shelf, R: HeldRule>(
 
     // Where it is told what the name holds: what the verdict says of the files, that the functions
     // of a text that is accepted are right, in a version with one memory at most, and that a
-    // verdict that says what is so comes, but for want of memory.
+    // verdict that says what is so comes, but for lack of memory.
     ensures verdict { (elf : Items ℕ)
         → IsReadable elf
         → image.now ≡ image_of elf
-        → IfVerdict result (λ v. WhereHeld (S.contents shelf.old) pull.old.rows.lines.name
+        → IfVerdict result (λ v. IfFile (S.contents shelf.old) pull.old.rows.lines.name
         (λ file. SaysBy R.states (version_of pull.old.version) elf (held_text pull.old file) v)) }
     ensures headline { (elf : Items ℕ)
         → IsReadable elf
         → image.now ≡ image_of elf
         → (version_of pull.old.version).most_mems ≤ 1
         → IfVerdict result (λ v.
-        WhereHeld (S.contents shelf.old) pull.old.rows.lines.name (λ file.
+        IfFile (S.contents shelf.old) pull.old.rows.lines.name (λ file.
         IsAcceptance v
         → (ps : Items ProofTree)
         → IsTextOfIn (version_of pull.old.version) (held_text pull.old file) ps
@@ -146,7 +146,7 @@ pub fn check_pulled_numbered<S: Shelf, R: HeldRule>(
         → IsReadable elf
         → image.now ≡ image_of elf
         → IfVerdict result (λ w.
-        WhereHeld (S.contents shelf.old) pull.old.rows.lines.name (λ file.
+        IfFile (S.contents shelf.old) pull.old.rows.lines.name (λ file.
         (v : VerdictOf)
         → SaysBy R.states (version_of pull.old.version) elf (held_text pull.old file) v
         → (w ≡ v) ⊎ (v ≡ Verdict.NoMemory) ⊎ (w ≡ Verdict.NoMemory))) }

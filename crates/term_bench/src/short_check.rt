@@ -10,7 +10,7 @@ ghost use Rattle.group_text.specs.declared.version.Version.TheVariants.{Two};
 ghost use Rattle.proof_text.specs.FirstProofs.{HasGiven, HasGivenOver};
 ghost use Rattle.proof_text.specs.Proofs.{groups_of};
 ghost use Rattle.proof_text.specs.Pulling.{held_text, left_of, progress_in};
-ghost use Rattle.proof_text.specs.inner.PulledRows.{WhereHeld};
+ghost use Rattle.proof_text.specs.inner.PulledRows.{IfFile};
 ghost use Rattle.short_text.specs.ShortProofs.{ShortProof, short_lines};
 ghost use Rattle.checker.specs.declared.verdict.Verdict.{Verdict as VerdictOf};
 ghost use Rattle.claims.specs.Headline.{Headline};
@@ -43,7 +43,7 @@ pub fn check_short(alloc: Global, elf: &[u8], reader: &mut Reader<'_>) -> Verdic
         → IsTextOver short_lines version_2 reader.old.text ps
         → Headline elf.now (groups_of ps) }
 
-    // A verdict that says what is so comes, but for want of memory.
+    // A verdict that says what is so comes, but for lack of memory.
     ensures exact { (v : VerdictOf) → SaysOver short_rules version_2 elf.now reader.old.text v
         → (result ≡ v) ⊎ (v ≡ Verdict.NoMemory) ⊎ (result ≡ Verdict.NoMemory) }
 {
@@ -110,17 +110,17 @@ pub fn check_pulled_short<S: Shelf>(
 
     // Where it is told what the name holds: what the verdict says of the files, that the functions
     // of a text that is accepted are right, and that a verdict that says what is so comes, but for
-    // want of memory.
+    // out of memory.
     ensures verdict { (elf : Items ℕ)
         → IsReadable elf
         → image.now ≡ image_of elf
-        → IfVerdict result (λ v. WhereHeld (S.contents shelf.old) pull.old.rows.lines.name
+        → IfVerdict result (λ v. IfFile (S.contents shelf.old) pull.old.rows.lines.name
         (λ file. SaysOver short_rules version_2 elf (held_text pull.old file) v)) }
     ensures headline { (elf : Items ℕ)
         → IsReadable elf
         → image.now ≡ image_of elf
         → IfVerdict result (λ v.
-        WhereHeld (S.contents shelf.old) pull.old.rows.lines.name (λ file.
+        IfFile (S.contents shelf.old) pull.old.rows.lines.name (λ file.
         IsAcceptance v
         → (ps : Items ShortProof)
         → IsTextOver short_lines version_2 (held_text pull.old file) ps
@@ -129,7 +129,7 @@ pub fn check_pulled_short<S: Shelf>(
         → IsReadable elf
         → image.now ≡ image_of elf
         → IfVerdict result (λ w.
-        WhereHeld (S.contents shelf.old) pull.old.rows.lines.name (λ file.
+        IfFile (S.contents shelf.old) pull.old.rows.lines.name (λ file.
         (v : VerdictOf)
         → SaysOver short_rules version_2 elf (held_text pull.old file) v
         → (w ≡ v) ⊎ (v ≡ Verdict.NoMemory) ⊎ (w ≡ Verdict.NoMemory))) }

@@ -7,7 +7,7 @@ ghost use Rattle.mc_shelf.specs.inner.OnlyReads.{OnlyReads};
 ghost use Rattle.tailrec_lang.specs.Tree.{GroupTree};
 ghost use Rattle.proof_text.specs.FirstProofs.{HasGiven};
 ghost use Rattle.proof_text.specs.Pulling.{held_text, left_of, progress_in};
-ghost use Rattle.proof_text.specs.inner.PulledRows.{WhereHeld};
+ghost use Rattle.proof_text.specs.inner.PulledRows.{IfFile};
 ghost use Rattle.checker.specs.declared.verdict.Verdict.{Verdict as VerdictOf};
 ghost use Rattle.claims.specs.Headline.{Headline};
 ghost use Rattle.checker.specs.Pulled.{IfVerdict, is_outside};
@@ -42,7 +42,7 @@ fn check_in<S: Shelf>(
     ensures verdict { (elf : Items ℕ)
         → IsReadable elf
         → image.now ≡ image_of elf
-        → IfVerdict result (λ v. WhereHeld (S.contents shelf.old) pull.old.rows.lines.name
+        → IfVerdict result (λ v. IfFile (S.contents shelf.old) pull.old.rows.lines.name
         (λ file. SaysIn (further_of version) version elf (held_text pull.old file) v)) }
     ensures shelf { OnlyReads S.contents S.read_faults S.write_faults S.IsSure
         (is_outside result ≡ true) pull.old.rows.lines.name shelf.old shelf.new }
@@ -68,16 +68,16 @@ pub fn check_file<S: Shelf>(
 
     // Where it is told what the name holds: what the verdict says of the files, that the functions
     // of a text that is accepted are right, and that a verdict that says what is so comes, but for
-    // want of memory.
+    // out of memory.
     ensures verdict { (elf : Items ℕ)
         → IsReadable elf
         → image.now ≡ image_of elf
         → IfVerdict result (λ v.
-        WhereHeld (S.contents shelf.old) name.now (λ file. SaysOf elf (take size file) v)) }
+        IfFile (S.contents shelf.old) name.now (λ file. SaysOf elf (take size file) v)) }
     ensures headline { (elf : Items ℕ)
         → IsReadable elf
         → image.now ≡ image_of elf
-        → IfVerdict result (λ v. WhereHeld (S.contents shelf.old) name.now (λ file.
+        → IfVerdict result (λ v. IfFile (S.contents shelf.old) name.now (λ file.
         IsAcceptance v
         → (gs : Items GroupTree)
         → IsTextListing (take size file) gs
@@ -85,7 +85,7 @@ pub fn check_file<S: Shelf>(
     ensures exact { (elf : Items ℕ)
         → IsReadable elf
         → image.now ≡ image_of elf
-        → IfVerdict result (λ w. WhereHeld (S.contents shelf.old) name.now (λ file.
+        → IfVerdict result (λ w. IfFile (S.contents shelf.old) name.now (λ file.
         (v : VerdictOf)
         → SaysOf elf (take size file) v
         → (w ≡ v) ⊎ (v ≡ Verdict.NoMemory) ⊎ (w ≡ Verdict.NoMemory))) }

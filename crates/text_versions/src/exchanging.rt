@@ -63,7 +63,7 @@ pub fn check_split(alloc: Global, elf: &[u8], proof: &[u8]) -> Verdict
         → IsTextOfIn version_4 proof.now ps
         → Headline elf.now (groups_of ps) }
 
-    // A verdict that says what is so comes, but for want of memory.
+    // A verdict that says what is so comes, but for lack of memory.
     ensures exact { (v : VerdictOf)
         → SaysBy IsExchanged version_4 elf.now proof.now v
         → (result ≡ v) ⊎ (v ≡ Verdict.NoMemory) ⊎ (result ≡ Verdict.NoMemory) }

@@ -61,7 +61,7 @@ pub fn check_linked(alloc: Global, elf: &[u8], proof: &[u8]) -> Verdict
         → IsTextOfIn version_3 proof.now ps
         → Headline elf.now (groups_of ps) }
 
-    // A verdict that says what is so comes, but for want of memory.
+    // A verdict that says what is so comes, but for lack of memory.
     ensures exact { (v : VerdictOf)
         → SaysBy IsSteered version_3 elf.now proof.now v
         → (result ≡ v) ⊎ (v ≡ Verdict.NoMemory) ⊎ (result ≡ Verdict.NoMemory) }

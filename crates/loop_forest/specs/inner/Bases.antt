@@ -1,7 +1,7 @@
 -- What the table of bases tells.
 use Rattle.std.specs.Prelude.{◌≡◌, ℕ, ◌<◌, ◌≤◌, ◌⊎◌, ◌↔◌, Bool, true, false, List, length, slice_index, slice_index_or}
 use Rattle.flow_graph.specs.Graph.{GraphOf, HasEdge, preds_of}
-use Rattle.loop_forest.specs.Loops.{IsSettled}
+use Rattle.loop_forest.specs.Loops.{IsPostOrder}
 use Rattle.loop_forest.specs.Loops.{IsHead}
 use Rattle.loop_forest.specs.Cuts.{StepsSinceCut}
 use Rattle.loop_forest.specs.inner.DepthFirst.{mark_of, number_of}
@@ -14,7 +14,7 @@ abbrev pub IsMarked : List Bool → ℕ → Type 0
 IsMarked base n = slice_index_or base n false ≡ true
 
 pub record HasBases (g : GraphOf) (marks : List Mark) (base : List Bool) : Type 0 where
-  pub settled : IsSettled (HasEdge g) g.entry (λ x. number_of (mark_of marks x))
+  pub in_post_order : IsPostOrder (HasEdge g) g.entry (λ x. number_of (mark_of marks x))
   pub numbers : (x : ℕ) → number_of (mark_of marks x) ≤ length g.addrs
   pub entry : IsMarked base g.entry
   pub heads : (h : ℕ) → IsHead (HasEdge g) g.entry h → IsMarked base h

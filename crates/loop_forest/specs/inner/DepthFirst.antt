@@ -2,7 +2,7 @@
 use Rattle.std.specs.Prelude.{◌≡◌, ℕ, ◌+◌, ◌<◌, ◌≤◌, ◌⊎◌, Bool, true, false, List, length, slice_index, slice_index_or}
 use Rattle.flow_graph.specs.Graph.{GraphOf, HasEdge}
 use Rattle.flow_graph.specs.Walks.{Reaches}
-use Rattle.loop_forest.specs.Loops.{IsMetBefore, IsSettled}
+use Rattle.loop_forest.specs.Loops.{Dominates, IsPostOrder}
 use Rattle.loop_forest.specs.Cycles.{ShowsTwoEntries}
 use Rattle.loop_forest.specs.declared.depth_first.Mark.{Mark}
 use Rattle.loop_forest.specs.declared.depth_first.Mark.TheVariants.{New, OnPath, Done}
@@ -22,9 +22,9 @@ number_of New = 0
 number_of (OnPath i) = 0
 number_of (Done n) = n
 
--- an edge from u to v is settled for u with the number n: v was left earlier, or every walk to u meets it
+-- an edge from u to v is in_post_order for u with the number n: v was left earlier, or every walk to u meets it
 abbrev pub IsDone : GraphOf → (e : ℕ) → List Mark → (n u v : ℕ) → Type 0
-IsDone g e marks n u v = ((m : ℕ) × (mark_of marks v ≡ Done m) × (m < n)) ⊎ (IsMetBefore (HasEdge g) e v u × (is_new (mark_of marks v) ≡ false))
+IsDone g e marks n u v = ((m : ℕ) × (mark_of marks v ≡ Done m) × (m < n)) ⊎ (Dominates (HasEdge g) e v u × (is_new (mark_of marks v) ≡ false))
 
 -- what the search keeps
 pub record Searching (g : GraphOf) (e : ℕ) (marks : List Mark) (path : List ℕ) (count : ℕ) : Type 0 where
@@ -39,7 +39,7 @@ pub record Searching (g : GraphOf) (e : ℕ) (marks : List Mark) (path : List �
 
 -- the marks of all nodes at the end, where there are no two entries
 pub record IsNumbered (g : GraphOf) (e : ℕ) (marks : List Mark) : Type 0 where
-  pub settled : IsSettled (HasEdge g) e (λ x. number_of (mark_of marks x))
+  pub in_post_order : IsPostOrder (HasEdge g) e (λ x. number_of (mark_of marks x))
   pub different : (u v : ℕ) → Reaches (HasEdge g) e u → Reaches (HasEdge g) e v → number_of (mark_of marks u) ≡ number_of (mark_of marks v) → u ≡ v
   pub few : (x : ℕ) → number_of (mark_of marks x) ≤ length g.addrs
   pub as_long : length marks ≡ length g.addrs

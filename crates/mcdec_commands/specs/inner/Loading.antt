@@ -10,19 +10,19 @@ use Rattle.mcdec_answers.specs.declared.answer.Answer.{Answer}
 use Rattle.mcdec_answers.specs.declared.answer.Answer.TheVariants as answer
 use Rattle.mcdec_commands.specs.declared.load.LoadFault.{LoadFault}
 use Rattle.mcdec_commands.specs.declared.load.LoadFault.TheVariants as load
-use Rattle.mcdec_commands.specs.Held.{HoldsWith}
+use Rattle.mcdec_commands.specs.Held.{HasFile}
 use Rattle.mcdec_commands.specs.RunAnswer.{IsLoaded, elf_limit}
 
 -- why a file of at most so many bytes isn't read; `rose` says that the count of read faults rose
 abbrev pub IsNotRead : Option Contents → (name : List ℕ) → (limit : ℕ) → (rose : Type 0) → ReadEnd → Type 0
 IsNotRead told name limit rose end.Fault = rose
-IsNotRead told name limit rose end.TooLong = HoldsWith told name (λ file. limit < length file)
+IsNotRead told name limit rose end.TooLong = HasFile told name (λ file. limit < length file)
 IsNotRead told name limit rose end.NoMemory = Unit {0}
 
 -- why there is no image of an ELF file
 abbrev pub IsNotLoaded : Option Contents → (elf : List ℕ) → (rose : Type 0) → LoadFault → Type 0
 IsNotLoaded told elf rose (load.Unread end) = IsNotRead told elf elf_limit rose end
-IsNotLoaded told elf rose (load.Unreadable why) = HoldsWith told elf (λ file. (length file ≤ elf_limit) × (fault_of file ≡ Some why))
+IsNotLoaded told elf rose (load.Unreadable why) = HasFile told elf (λ file. (length file ≤ elf_limit) × (fault_of file ≡ Some why))
 
 -- the image is that of the file that a name holds, where that is told
 pub record IsImageIn (told : Option Contents) (elf : List ℕ) (image : ImageOf) : Type 0 where

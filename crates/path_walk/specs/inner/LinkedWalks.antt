@@ -12,11 +12,11 @@ use Rattle.proof_text.specs.LineLimits.{IsLineIn}
 use Rattle.code_parts.specs.declared.part.Part.{Part}
 use Rattle.code_parts.specs.Bodies.{Flow, part_body, part_def}
 use Rattle.loop_forest.specs.Forest.{IsForestOf}
-use Rattle.code_parts.specs.Flows.{HaveInstructions, IsSetFor, setting_of}
+use Rattle.code_parts.specs.Flows.{HaveInstructions, IsSetFor, context_of}
 use Rattle.code_parts.specs.Kept.{IsReachedBy}
 use Rattle.code_parts.specs.Graph.{CallsBelow, IsFor, IsPart}
 use Rattle.code_parts.specs.Members.{AreMembers, CallsBefore, Member, defs_of, flow_at}
-use Rattle.linked_group.specs.Groups.{group_in, member_in, members_of, setting_in}
+use Rattle.linked_group.specs.Groups.{group_in, member_in, members_of, context_in}
 use Rattle.linked_group.specs.declared.group.LinkedFunction.{LinkedFunction}
 use Rattle.linked_group.specs.declared.group.LinkedGroup.{LinkedGroup}
 use Rattle.checker.specs.Further.{further_of}
@@ -45,7 +45,7 @@ pub record AreWalkedOf (s : LinkedGroup) (k : ℕ) (defs : List DefTree) (lines 
 pub record CanBeWalked (s : LinkedGroup) (f : LinkedFunction) : Type 0 where
   pub reached : IsReachedBy f.function.now.graph
   pub forest : IsForestOf f.function.now.graph f.function.now.forest
-  pub fits : IsSetFor f.function.now.graph (setting_of (setting_in s f))
+  pub fits : IsSetFor f.function.now.graph (context_of (context_in s f))
   pub few : f.base + length f.parts < 2 ^ 32
   pub one : s.mems ≤ 1
   pub code : HaveInstructions f.function.now.graph s.code.ranges
@@ -58,7 +58,7 @@ pub record CanAllBeWalked (s : LinkedGroup) (name : List ℕ) : Type 0 where
   pub main : Member
   pub members : AreMembers true code (members_of s) main (group_in s name)
   pub reached : (m : Member) → Contains (members_of s) m → IsReachedBy m.graph
-  pub set : (m : Member) → Contains (members_of s) m → IsSetFor m.graph m.setting
+  pub set : (m : Member) → Contains (members_of s) m → IsSetFor m.graph m.context
   pub instructions : (m : Member) → Contains (members_of s) m → HaveInstructions m.graph s.code.ranges
   pub calls : CallsBefore [] (members_of s)
   pub few : length (defs_of (members_of s)) ≤ 2048

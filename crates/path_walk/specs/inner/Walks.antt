@@ -22,13 +22,13 @@ pub record CloseFirst (F : FurtherRule) (g : GroupTree) (n : ℕ) (lines : List 
 
 -- the definitions of the first n parts, and lines that have a text of that version and close these in each group of all parts
 pub record AreWalked (version : Known) (s : FlowOf) (n : ℕ) (defs : List DefTree) (lines : List LineTree) : Type 0 where
-  pub are : defs ≡ map (part_def (flow_in s)) (take n s.setting.parts)
+  pub are : defs ≡ map (part_def (flow_in s)) (take n s.context.parts)
   pub fine : AllByRecursion (IsLineIn (version_of version)) lines
-  pub close : (g : GroupTree) → IsMade (flow_in s) g s.setting.parts → g.code ≡ s.code → CloseFirst (further_of version) g n lines
+  pub close : (g : GroupTree) → IsMade (flow_in s) g s.context.parts → g.code ≡ s.code → CloseFirst (further_of version) g n lines
 
 -- the group of all parts of a flow, and lines that have a text of that version and close each of its definitions, where it is made of the parts
 pub record IsItemOver (version : Known) (s : FlowOf) (name : List ℕ) (count : ℕ) (item : Item) : Type 0 where
-  pub group : group_tree item.group ≡ group_of (flow_in s) name s.code s.setting.parts
+  pub group : group_tree item.group ≡ group_of (flow_in s) name s.code s.context.parts
   pub fine : AllByRecursion (IsLineIn (version_of version)) (map line_tree item.lines)
-  pub close : IsMade (flow_in s) (group_tree item.group) s.setting.parts → AreClosedIn version (group_tree item.group) (map line_tree item.lines)
+  pub close : IsMade (flow_in s) (group_tree item.group) s.context.parts → AreClosedIn version (group_tree item.group) (map line_tree item.lines)
   pub reached : item.reached ≡ count

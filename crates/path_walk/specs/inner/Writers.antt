@@ -106,7 +106,7 @@ standing_at f pc v = record { pc = pc; regs = map (λ r. (r, Var (v.reg r))) f.r
 
 -- a version of texts, a group for the graph, with this code, and the lines of the definitions before. It has each part and each function whose
 -- number is below the bound.
-pub record Setting (f : Flow) (ranges : List Range) : Type 0 where
+pub record Context (f : Flow) (ranges : List Range) : Type 0 where
   pub version : Known
   pub fits : IsVersionFor f version
   pub name : List ℕ
@@ -117,19 +117,19 @@ pub record Setting (f : Flow) (ranges : List Range) : Type 0 where
   pub has : (q : Part) → IsPart f q → f.number q < bound → HasPart f (group_over f name ranges defs) q
   pub callees : (n : ℕ) (c : Callee) → n < f.nodes → f.callee n ≡ Some c → c.def < bound → HasCallee defs c
 
-abbrev pub group_in : (f : Flow) (ranges : List Range) → Setting f ranges → GroupTree
+abbrev pub group_in : (f : Flow) (ranges : List Range) → Context f ranges → GroupTree
 group_in f ranges s = group_over f s.name ranges s.defs
 
 -- what the lines so far leave behind them
-abbrev pub past : (f : Flow) (ranges : List Range) → Setting f ranges → WriterTree → History
+abbrev pub past : (f : Flow) (ranges : List Range) → Context f ranges → WriterTree → History
 past f ranges s l = fold after_line (after_lines s.before) l.lines
 
-pub record IsReady (f : Flow) (ranges : List Range) (s : Setting f ranges) (l : WriterTree) : Type 0 where
+pub record IsReady (f : Flow) (ranges : List Range) (s : Context f ranges) (l : WriterTree) : Type 0 where
   pub next : l.next ≡ (past f ranges s l).next
   pub counted : IsCounted (past f ranges s l)
 
 -- lines were added, each of them right, that forget nothing
-pub record Grown (f : Flow) (ranges : List Range) (s : Setting f ranges) (old new : WriterTree) : Type 0 where
+pub record Grown (f : Flow) (ranges : List Range) (s : Context f ranges) (old new : WriterTree) : Type 0 where
   pub added : List LineTree
   pub lines : new.lines ≡ old.lines ++ added
   pub right : AreInstancesBy (further_of s.version) (group_in f ranges s) (past f ranges s old) added
@@ -155,7 +155,7 @@ IsOver ranges None = Unit {0}
 IsOver ranges (Some t) = IsWithin (range_bytes t.code) (range_bytes ranges)
 
 -- lines that were added lead to this place
-pub record Stood (f : Flow) (entry : ℕ) (ranges : List Range) (s : Setting f ranges) (old new : WriterTree) (pc : WordTree) (v : VariableMap) (path : List FactTree) (t : CitedTree) : Type 0 where
+pub record Stood (f : Flow) (entry : ℕ) (ranges : List Range) (s : Context f ranges) (old new : WriterTree) (pc : WordTree) (v : VariableMap) (path : List FactTree) (t : CitedTree) : Type 0 where
   pub grown : Grown f ranges s old new
   pub cited : new.cited ≡ old.cited
   pub stands : StandsAs f entry ranges (past f ranges s new) pc v path t
@@ -163,19 +163,19 @@ pub record Stood (f : Flow) (entry : ℕ) (ranges : List Range) (s : Setting f r
 -- they lead from one place to another, where the way has these facts more
 pub record Steps (f : Flow) (entry : ℕ) (ranges : List Range) (old new : WriterTree) (pc : WordTree) (v : VariableMap) (from : Option CitedTree) (to : WordTree) (u : VariableMap) (more : List FactTree) (t : CitedTree) : Type 0 where
   pub version : new.version ≡ old.version
-  pub each : (s : Setting f ranges) (path : List FactTree) → IsReady f ranges s old → FromAs f entry ranges (past f ranges s old) pc v path from
+  pub each : (s : Context f ranges) (path : List FactTree) → IsReady f ranges s old → FromAs f entry ranges (past f ranges s old) pc v path from
       → Stood f entry ranges s old new to u (path ++ more) t
 
 -- .. by a call of definition d, where that is closed and below the bound
 pub record StepsBy (f : Flow) (entry : ℕ) (ranges : List Range) (d : ℕ) (old new : WriterTree) (pc : WordTree) (v : VariableMap) (from : Option CitedTree) (to : WordTree) (u : VariableMap) (more : List FactTree) (t : CitedTree) : Type 0 where
   pub version : new.version ≡ old.version
-  pub each : (s : Setting f ranges) (path : List FactTree) → IsReady f ranges s old → (past f ranges s old).closed d ≡ true → d < s.bound → FromAs f entry ranges (past f ranges s old) pc v path from
+  pub each : (s : Context f ranges) (path : List FactTree) → IsReady f ranges s old → (past f ranges s old).closed d ≡ true → d < s.bound → FromAs f entry ranges (past f ranges s old) pc v path from
       → Stood f entry ranges s old new to u (path ++ more) t
 
 -- ---- leaves
 
 -- lines were added, after which a theorem is cited for each of these leaves
-pub record Led (f : Flow) (p : Part) (ranges : List Range) (s : Setting f ranges) (old new : WriterTree) (leaves : List LeafTree) : Type 0 where
+pub record Led (f : Flow) (p : Part) (ranges : List Range) (s : Context f ranges) (old new : WriterTree) (leaves : List LeafTree) : Type 0 where
   pub grown : Grown f ranges s old new
   pub numbers : List ℕ
   pub cited : new.cited ≡ old.cited ++ numbers
@@ -184,6 +184,6 @@ pub record Led (f : Flow) (p : Part) (ranges : List Range) (s : Setting f ranges
 -- .. for those of a body at a place
 pub record Leads (f : Flow) (p : Part) (ranges : List Range) (old new : WriterTree) (pc : WordTree) (v : VariableMap) (from : Option CitedTree) (body : BodyTree) : Type 0 where
   pub version : new.version ≡ old.version
-  pub each : (s : Setting f ranges) (path : List FactTree) → IsReady f ranges s old → FromAs f (part_def f p).entry ranges (past f ranges s old) pc v path from
+  pub each : (s : Context f ranges) (path : List FactTree) → IsReady f ranges s old → FromAs f (part_def f p).entry ranges (past f ranges s old) pc v path from
       → AreClosed (past f ranges s old) body → CallsBelow s.bound body
       → Led f p ranges s old new (body_leaves (group_in f ranges s) (part_def f p) body v.words v.mems path)

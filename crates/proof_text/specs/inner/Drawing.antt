@@ -5,7 +5,7 @@ use Rattle.mc_shelf.specs.inner.OnlyReads.{OnlyReads}
 use Rattle.mc_shelf.proofs.OnlyReadsLemmas.{reads_none, reads_then, reads_so}
 use Rattle.group_text.specs.declared.read_error.RowError.{RowError}
 use Rattle.group_text.specs.declared.read_error.RowError.TheVariants as row
-use Rattle.proof_text.specs.inner.PulledRows.{PulledState, Draws, FailsFirst, WhereHeld}
+use Rattle.proof_text.specs.inner.PulledRows.{PulledState, Draws, FailsFirst, IfFile}
 
 nothing-lost : (e : RowError) → None ≡ Some e → ⊥
 nothing-lost e h = absurd cc
@@ -14,20 +14,20 @@ other-error : Some row.NoMemory ≡ Some row.Fault → ⊥
 other-error h = absurd cc
 
 held-then : (told now : Option Contents) (name next : List ℕ) (P Q R : List ℕ → Type 0) → now ≡ told → next ≡ name → ((file : List ℕ) → P file → Q file → R file)
-    → WhereHeld told name P → WhereHeld now next Q → WhereHeld told name R
-held-then told now name next P Q R same named both p q = by told name p (subst (λ (t : Option Contents). WhereHeld t name Q) same (subst (λ (n : List ℕ). WhereHeld now n Q) named q))
+    → IfFile told name P → IfFile now next Q → IfFile told name R
+held-then told now name next P Q R same named both p q = by told name p (subst (λ (t : Option Contents). IfFile t name Q) same (subst (λ (n : List ℕ). IfFile now n Q) named q))
   where
     in-name : (held : Option (List ℕ)) → IfSome held P → IfSome held Q → IfSome held R
     in-name None p q = tt
     in-name (Some file) p q = both file p q
 
-    by : (told : Option Contents) (name : List ℕ) → WhereHeld told name P → WhereHeld told name Q → WhereHeld told name R
+    by : (told : Option Contents) (name : List ℕ) → IfFile told name P → IfFile told name Q → IfFile told name R
     by None name p q = tt
     by (Some files) name p q = in-name (files name) p q
 
-pub where_held : (told : Option Contents) (name : List ℕ) (P : List ℕ → Type 0) → ((file : List ℕ) → P file) → WhereHeld told name P
-where_held None name P h = tt
-where_held (Some files) name P h = in-name (files name)
+pub if_file : (told : Option Contents) (name : List ℕ) (P : List ℕ → Type 0) → ((file : List ℕ) → P file) → IfFile told name P
+if_file None name P h = tt
+if_file (Some files) name P h = in-name (files name)
   where
     in-name : (held : Option (List ℕ)) → IfSome held P
     in-name None = tt
@@ -40,7 +40,7 @@ draws_nothing contents reads writes Sure s e = record {
   size = refl;
   taken = omega arith;
   going = λ _. refl;
-  last = λ _. where_held (contents e) s.lines.name _ (λ file. refl);
+  last = λ _. if_file (contents e) s.lines.name _ (λ file. refl);
 }
 
 pub draws_then : {Store : Type 0} {contents : Store → Option Contents} {reads writes : Store → ℕ} {Sure : Store → Type 0} {lost : Option RowError} {a b c : PulledState} {d e f : Store}

@@ -80,8 +80,8 @@ after_newlines [] = []
 after_newlines (b ∷ bytes) = if newlines (b ∷ bytes) == 0 then b ∷ bytes else after_newlines bytes
 
 -- where it is told what the name holds
-abbrev pub WhereHeld : Option Contents → List ℕ → (List ℕ → Type 0) → Type 0
-WhereHeld told name P = IfSome told (λ files. IfSome (files name) P)
+abbrev pub IfFile : Option Contents → List ℕ → (List ℕ → Type 0) → Type 0
+IfFile told name P = IfSome told (λ files. IfSome (files name) P)
 
 -- the outside failed, and it hadn't before
 abbrev pub FailsFirst : Option RowError → LinesState → Type 0
@@ -95,7 +95,7 @@ pub record Draws {Store : Type 0} (contents : Store → Option Contents) (read_f
   pub size : new.lines.size ≡ old.lines.size
   pub taken : old.taken ≤ new.taken
   pub going : lost ≡ None → new.lines.refused ≡ old.lines.refused
-  pub last : lost ≡ None → WhereHeld (contents before) old.lines.name (λ file. after_newlines (not_passed new file) ≡ after_newlines (not_passed old file))
+  pub last : lost ≡ None → IfFile (contents before) old.lines.name (λ file. after_newlines (not_passed new file) ≡ after_newlines (not_passed old file))
 
 -- a line was kept: as the row that is held, or as the last bytes
 abbrev pub KeepsLine : Bool → List ℕ → PulledState → PulledState → Type 0

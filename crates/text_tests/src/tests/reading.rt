@@ -226,7 +226,7 @@ static BEHIND: [(&[u8], u64, Option<u64>); 10] = [
 enum Read {
     More,
     End,
-    /// The number of the line that is refused, and 0 for want of memory.
+    /// The number of the line that is refused, and 0 for lack of memory.
     Refused(u64),
 }
 

@@ -6,14 +6,14 @@ use Rattle.code_parts.specs.Members.{flow_at}
 use Rattle.linked_group.specs.Groups.{member_in}
 use Rattle.linked_group.proofs.Calls.{calls-before}
 use Rattle.linked_group.proofs.Lists.{out-map}
-use Rattle.linked_group.proofs.Settings.{instructions-of, reached-of, set-of, small-of, within-code}
+use Rattle.linked_group.proofs.Contexts.{instructions-of, reached-of, set-of, small-of, within-code}
 use Rattle.linked_group.proofs.Together.{defs-few, defs-some, entered-at-entry, formed, members-are}
 use Rattle.linked_group.proofs.laws.law_of_groups.Goals as goal
 
 pub returns : goal.returns
 returns c = record {
   reached = λ code e s bytes are is m d. let r = out-map (member_in s) s.functions m d in subst (λ z. IsReachedBy z.graph) r.2 (true, reached-of code e bytes s are is r.0 r.1);
-  set = λ code e s bytes are is m d. let r = out-map (member_in s) s.functions m d in subst (λ z. IsSetFor z.graph z.setting) r.2 (set-of code e bytes s are is r.0 r.1);
+  set = λ code e s bytes are is m d. let r = out-map (member_in s) s.functions m d in subst (λ z. IsSetFor z.graph z.context) r.2 (set-of code e bytes s are is r.0 r.1);
   instructions = λ code e s bytes are is m d. let r = out-map (member_in s) s.functions m d in subst (λ z. HaveInstructions z.graph s.code.ranges) r.2 (instructions-of code e bytes s are is r.0 r.1);
   small = λ code e s bytes are is m d. let r = out-map (member_in s) s.functions m d in subst (λ z. IsSmall (flow_at z)) r.2 (small-of code e bytes s are is r.0 r.1);
   calls = λ code e s are is. calls-before code e s are is;

@@ -10,7 +10,7 @@ use Rattle.loop_forest.specs.inner.DepthFirst.{mark_of, IsDone, Searching}
 use Rattle.loop_forest.specs.declared.depth_first.Mark.{Mark}
 use Rattle.loop_forest.specs.declared.depth_first.Mark.TheVariants.{New, OnPath}
 use Rattle.loop_forest.proofs.DepthFirstInvariant.{searching_down, searching_up, some_holds, none_holds}
-use Rattle.loop_forest.proofs.DepthFirstEnds.{searching_start, total_start, total_down, total_up, settled_at_end, different_at_end, numbers_below, two_entries, top_below, top_weight, top_is, not_empty, is_empty}
+use Rattle.loop_forest.proofs.DepthFirstEnds.{searching_start, total_start, total_down, total_up, post_order_at_end, different_at_end, numbers_below, two_entries, top_below, top_weight, top_is, not_empty, is_empty}
 use Rattle.loop_forest.proofs.depth_first.post_order.Goals as goal
 
 pub search-init : goal.search-init
@@ -109,7 +109,7 @@ search-preserved c =
 
 pub returns : goal.returns
 returns c = record {
-  settled = settled_at_end c.args.g.now c.args.entry c.search.marks.items c.search.path.items c.search.count c.search.invariant.searching (sym c.search.path.ok.0 ∙ is_empty c.search.path.len c.search-test.ensures);
+  in_post_order = post_order_at_end c.args.g.now c.args.entry c.search.marks.items c.search.path.items c.search.count c.search.invariant.searching (sym c.search.path.ok.0 ∙ is_empty c.search.path.len c.search-test.ensures);
   different = different_at_end c.args.g.now c.args.entry c.search.marks.items c.search.path.items c.search.count c.search.invariant.searching (sym c.search.path.ok.0 ∙ is_empty c.search.path.len c.search-test.ensures);
   few = numbers_below c.args.g.now c.args.entry c.search.marks.items c.search.path.items c.search.count (length c.args.g.now.addrs) c.search.invariant.searching (omega (arith, c.search.invariant.total));
   as_long = c.search.invariant.searching.as_long;

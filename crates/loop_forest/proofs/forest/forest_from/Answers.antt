@@ -26,7 +26,7 @@ places-requires c =
     let a = subst (λ (z : Found). IsFound c.args.g.now z) c.in-Loops.is c.in_ok-h.ensures in
     let t = subst (λ (z : List LoopWithExits). AreBases c.args.g.now z c.in_ok-base-in-Loops.base.items (length c.args.g.now.addrs)) c.deref-in-Loops-2.ensures.value c.in_ok-base-in-Loops.ensures in
     rw (c.deref-in-Loops-3.ensures.value, c.deref-in-Loops-4.ensures.value)
-    (record { bases = has_bases c.args.g.now c.in-Loops.loops.items c.args.marks.items c.in_ok-base-in-Loops.base.items c.len-count.ensures.flow a t c.requires.settled c.requires.few })
+    (record { bases = has_bases c.args.g.now c.in-Loops.loops.items c.args.marks.items c.in_ok-base-in-Loops.base.items c.len-count.ensures.flow a t c.requires.in_post_order c.requires.few })
 
 pub invariant_of-result : goal.invariant_of-result
 invariant_of-result c =
@@ -37,7 +37,7 @@ invariant_of-result c =
 pub returns-in-TooManyExits-clause-err : goal.returns-in-TooManyExits-clause-err
 returns-in-TooManyExits-clause-err c =
     let m = subst (λ (z : Found). IsFound c.args.g.now z) c.in-TooManyExits.is c.in_ok-h.ensures in
-    many_of_order c.args.g.now c.args.marks.items c.in-TooManyExits.h c.addr.result c.len-count.ensures.flow c.requires.settled m c.addr.ensures
+    many_of_order c.args.g.now c.args.marks.items c.in-TooManyExits.h c.addr.result c.len-count.ensures.flow c.requires.in_post_order m c.addr.ensures
 
 pub returns-in_ok-places-in-Loops-clause-ok : goal.returns-in_ok-places-in-Loops-clause-ok
 returns-in_ok-places-in-Loops-clause-ok c =

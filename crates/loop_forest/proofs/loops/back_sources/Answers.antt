@@ -10,7 +10,7 @@ use Rattle.loop_forest.proofs.loops.back_sources.Goals as goal
 pub loop-u-preserved-in-Continue-1 : goal.loop-u-preserved-in-Continue-1
 loop-u-preserved-in-Continue-1 c =
     let edge : HasEdge c.args.g.now c.in-Some.u c.args.h = pred_succ c.args.g.now.edges c.in-Some.u c.args.h (passed_first _ _ _ c.in-Some.u _ c.in-Some.ensures.steps c.loop-u.invariant.so_far.passed) in
-    let iff = back_iff (HasEdge c.args.g.now) c.args.g.now.entry (λ x. number_of (mark_of c.args.marks.now x)) c.requires.settled c.in-Some.u c.args.h
+    let iff = back_iff (HasEdge c.args.g.now) c.args.g.now.entry (λ x. number_of (mark_of c.args.marks.now x)) c.requires.in_post_order c.in-Some.u c.args.h
     (c.len-count.ensures.flow.reached c.in-Some.u (c.len-count.ensures.flow.source c.in-Some.u c.args.h edge)) edge in
     rw c.in_ok-push.ensures.items (record {
       can = tt;
@@ -21,7 +21,7 @@ loop-u-preserved-in-Continue-1 c =
 pub loop-u-preserved : goal.loop-u-preserved
 loop-u-preserved c =
     let edge : HasEdge c.args.g.now c.in-Some.u c.args.h = pred_succ c.args.g.now.edges c.in-Some.u c.args.h (passed_first _ _ _ c.in-Some.u _ c.in-Some.ensures.steps c.loop-u.invariant.so_far.passed) in
-    let iff = back_iff (HasEdge c.args.g.now) c.args.g.now.entry (λ x. number_of (mark_of c.args.marks.now x)) c.requires.settled c.in-Some.u c.args.h
+    let iff = back_iff (HasEdge c.args.g.now) c.args.g.now.entry (λ x. number_of (mark_of c.args.marks.now x)) c.requires.in_post_order c.in-Some.u c.args.h
     (c.len-count.ensures.flow.reached c.in-Some.u (c.len-count.ensures.flow.source c.in-Some.u c.args.h edge)) edge in
     record {
       can = tt;

@@ -1,7 +1,7 @@
 use Rattle.std.proofs.Common.{rules, Option, take, sym, subst}
 use Rattle.mc_shelf.specs.Fault.{Rose}
 use Rattle.mc_shelf.specs.Shelf.{Contents}
-use Rattle.proof_text.specs.inner.PulledRows.{WhereHeld}
+use Rattle.proof_text.specs.inner.PulledRows.{IfFile}
 use Rattle.checker.specs.Pulled.{IfVerdict}
 use Rattle.text_versions.specs.Versions.{SaysOf}
 use Rattle.mcdec_answers.proofs.Prints.{rose-later}
@@ -21,5 +21,5 @@ returns-clause-gives g c file loaded is =
     let rose = Rose (g.S.Shelf.read_faults c.args.shelf.now) (g.S.Shelf.read_faults c.check_file.new.shelf) in
     subst (ImageGives told c.args.c.now.proof.now file rose) (sym c.answer_to.ensures)
     (pulled-gives c.args.c.now.proof.now file c.in-Ok.size loaded c.in-Ok.ensures.within told rose c.in-Ok.ensures.whole c.check_file.result
-    (subst (λ (held : Option Contents). IfVerdict c.check_file.result (λ v. WhereHeld held c.args.c.now.proof.now (λ text. SaysOf file (take c.in-Ok.size text) v))) c.measure.ensures.kept (c.check_file.ensures.verdict file loaded.1 is))
+    (subst (λ (held : Option Contents). IfVerdict c.check_file.result (λ v. IfFile held c.args.c.now.proof.now (λ text. SaysOf file (take c.in-Ok.size text) v))) c.measure.ensures.kept (c.check_file.ensures.verdict file loaded.1 is))
     (λ failed. rose-later _ _ _ c.measure.ensures.counted.0 (c.check_file.ensures.shelf.cause failed)))

@@ -3,7 +3,7 @@ use Rattle.mc_shelf.specs.Fault.{Rose}
 use Rattle.elf_image.specs.Fault.{IsReadable, fault_of}
 use Rattle.elf_image.specs.Image.{image_of}
 use Rattle.elf_image.specs.declared.fault.ElfFault.{ElfFault}
-use Rattle.mcdec_commands.specs.Held.{HoldsWith}
+use Rattle.mcdec_commands.specs.Held.{HasFile}
 use Rattle.mcdec_commands.specs.RunAnswer.{elf_limit}
 use Rattle.mcdec_commands.proofs.Answers.{held-with}
 use Rattle.mcdec_commands.proofs.Loading.{unread}
@@ -25,5 +25,5 @@ returns-in-Ok-read-clause-image g c = record {
 pub returns-clause-fault : goal.returns-clause-fault
 returns-clause-fault g c =
     let told = g.S.Shelf.contents c.args.shelf.now in
-    subst (λ (why : ElfFault). HoldsWith told c.args.elf.now (λ f. (length f ≤ elf_limit) × (fault_of f ≡ Some why))) (sym c.in-Err-read.why-is)
+    subst (λ (why : ElfFault). HasFile told c.args.elf.now (λ f. (length f ≤ elf_limit) × (fault_of f ≡ Some why))) (sym c.in-Err-read.why-is)
     (held-with told c.args.elf.now c.in-Ok.file (λ f. (length f ≤ elf_limit) × (fault_of f ≡ Some c.in-Err-read.why)) c.in-Ok.ensures.whole (search rules))

@@ -5,7 +5,7 @@ use Rattle.group_text.specs.inner.Reading.{turn_at}
 use Rattle.group_text.specs.Version.{version_of}
 use Rattle.group_text.specs.inner.Rows.{row_error}
 use Rattle.group_text.proofs.Claims.{found-was, bad-was}
-use Rattle.proof_text.specs.inner.PulledRows.{EndsSo, WhereHeld, not_passed}
+use Rattle.proof_text.specs.inner.PulledRows.{EndsSo, IfFile, not_passed}
 use Rattle.proof_text.specs.inner.Drawing.{draws_as, draws_then}
 use Rattle.proof_text.specs.inner.Pulling.{EndsBehind, ReadFrom, StoppedAt, fault_lost}
 use Rattle.proof_text.proofs.PullAnswers.{bad_so, err_bad_so, held_at, none_ended, none_given}
@@ -39,7 +39,7 @@ pub returns-in-Ok-None-clause-end : goal.returns-in-Ok-None-clause-end
 returns-in-Ok-None-clause-end g c =
     let d = c.in-Ok-None.ensures.lends in
     let all = found-was group_tree (turn_at (version_of c.args.version) c.args.first) _ _ c.in-Ok-None.field-0 None c.in-Ok-None.field-0-is c.in-Ok-None.ensures.gives in
-    none_ended c.read_end.result _ (WhereHeld (g.S.Shelf.contents c.args.shelf.now) c.args.rows.now.lines.name (λ (file : List ℕ). (n : ℕ) × EndsBehind (turn_at (version_of c.args.version) c.args.first) c.args.rows.now file n (EndsSo true)))
+    none_ended c.read_end.result _ (IfFile (g.S.Shelf.contents c.args.shelf.now) c.args.rows.now.lines.name (λ (file : List ℕ). (n : ℕ) × EndsBehind (turn_at (version_of c.args.version) c.args.first) c.args.rows.now file n (EndsSo true)))
     (λ ends. told_so (g.S.Shelf.contents c.args.shelf.now) c.args.rows.now.lines.name _ (λ (file : List ℕ). (n : ℕ) × EndsBehind (turn_at (version_of c.args.version) c.args.first) c.args.rows.now file n (EndsSo true))
     (λ files file is held last. (
       c.read_turn.new.rows.taken,
@@ -56,7 +56,7 @@ pub returns-in-Ok-None-clause-bad : goal.returns-in-Ok-None-clause-bad
 returns-in-Ok-None-clause-bad g c =
     let d = c.in-Ok-None.ensures.lends in
     let all = found-was group_tree (turn_at (version_of c.args.version) c.args.first) _ _ c.in-Ok-None.field-0 None c.in-Ok-None.field-0-is c.in-Ok-None.ensures.gives in
-    err_bad_so c.read_end.result _ (λ (n : ℕ). WhereHeld (g.S.Shelf.contents c.args.shelf.now) c.args.rows.now.lines.name (λ (file : List ℕ). StoppedAt (turn_at (version_of c.args.version) c.args.first) c.args.rows.now n file ⊎ ((m : ℕ) × (n ≡ m + 1) × EndsBehind (turn_at (version_of c.args.version) c.args.first) c.args.rows.now file m (EndsSo false))))
+    err_bad_so c.read_end.result _ (λ (n : ℕ). IfFile (g.S.Shelf.contents c.args.shelf.now) c.args.rows.now.lines.name (λ (file : List ℕ). StoppedAt (turn_at (version_of c.args.version) c.args.first) c.args.rows.now n file ⊎ ((m : ℕ) × (n ≡ m + 1) × EndsBehind (turn_at (version_of c.args.version) c.args.first) c.args.rows.now file m (EndsSo false))))
     (λ n more. told_so (g.S.Shelf.contents c.args.shelf.now) c.args.rows.now.lines.name _ (λ (file : List ℕ). StoppedAt (turn_at (version_of c.args.version) c.args.first) c.args.rows.now n file ⊎ ((m : ℕ) × (n ≡ m + 1) × EndsBehind (turn_at (version_of c.args.version) c.args.first) c.args.rows.now file m (EndsSo false)))
     (λ files file is held last. inr (
       c.read_turn.new.rows.taken,
@@ -76,7 +76,7 @@ returns-in-Ok-None-clause-draws g c = draws_then c.in-Ok-None.ensures.lends c.re
 pub returns-in-Err-clause-bad : goal.returns-in-Err-clause-bad
 returns-in-Err-clause-bad g c =
     let d = c.in-Err.ensures.lends in
-    bad_so c.fault_behind.result _ (λ (n : ℕ). WhereHeld (g.S.Shelf.contents c.args.shelf.now) c.args.rows.now.lines.name (λ (file : List ℕ). StoppedAt (turn_at (version_of c.args.version) c.args.first) c.args.rows.now n file ⊎ ((m : ℕ) × (n ≡ m + 1) × EndsBehind (turn_at (version_of c.args.version) c.args.first) c.args.rows.now file m (EndsSo false))))
+    bad_so c.fault_behind.result _ (λ (n : ℕ). IfFile (g.S.Shelf.contents c.args.shelf.now) c.args.rows.now.lines.name (λ (file : List ℕ). StoppedAt (turn_at (version_of c.args.version) c.args.first) c.args.rows.now n file ⊎ ((m : ℕ) × (n ≡ m + 1) × EndsBehind (turn_at (version_of c.args.version) c.args.first) c.args.rows.now file m (EndsSo false))))
     (λ n h. told_so (g.S.Shelf.contents c.args.shelf.now) c.args.rows.now.lines.name _ (λ (file : List ℕ). StoppedAt (turn_at (version_of c.args.version) c.args.first) c.args.rows.now n file ⊎ ((m : ℕ) × (n ≡ m + 1) × EndsBehind (turn_at (version_of c.args.version) c.args.first) c.args.rows.now file m (EndsSo false)))
     (λ files file is held last. inl (stopped_at (g.S.Shelf.contents c.args.shelf.now) (g.S.Shelf.contents c.read_turn.new.from) c.args.rows.now c.read_turn.new.rows d.shelf.kept d.name (d.going (ap row_error h.0) ∙ c.requires) files file is held (turn_at (version_of c.args.version) c.args.first) d.taken n (h.1 ∙ ap (λ (k : ℕ). k + 1) c.passed.ensures) (bad-was (λ o. option_map group_tree o) (turn_at (version_of c.args.version) c.args.first) _ _ c.in-Err.halt h.0 c.in-Err.ensures.gives))) (d.last (ap row_error h.0)))
     c.fault_behind.ensures.bad

@@ -4,7 +4,7 @@ use Rattle.proof_text.specs.inner.LineReaders.{turn_over}
 use Rattle.group_text.specs.Version.{version_of}
 use Rattle.group_text.specs.inner.Rows.{row_error}
 use Rattle.group_text.proofs.Claims.{found-was, bad-was}
-use Rattle.proof_text.specs.inner.PulledRows.{WhereHeld}
+use Rattle.proof_text.specs.inner.PulledRows.{IfFile}
 use Rattle.proof_text.specs.inner.Drawing.{draws_as}
 use Rattle.proof_text.specs.inner.Pulling.{ReadFrom, StoppedAt, fault_lost}
 use Rattle.proof_text.proofs.PullAnswers.{bad_so}
@@ -39,7 +39,7 @@ pub returns-in-Err-clause-bad : goal.returns-in-Err-clause-bad
 returns-in-Err-clause-bad g c =
     λ ls kept are.
     let d = c.in-Err.ensures.lends in
-    bad_so c.fault_behind.result _ (λ (n : ℕ). WhereHeld (g.S.Shelf.contents c.args.shelf.now) c.args.rows.now.lines.name (StoppedAt (turn_over g.W.ReadLines.readers (version_of c.args.version) c.args.own.now.ranges ls) c.args.rows.now n))
+    bad_so c.fault_behind.result _ (λ (n : ℕ). IfFile (g.S.Shelf.contents c.args.shelf.now) c.args.rows.now.lines.name (StoppedAt (turn_over g.W.ReadLines.readers (version_of c.args.version) c.args.own.now.ranges ls) c.args.rows.now n))
     (λ n h. told_so (g.S.Shelf.contents c.args.shelf.now) c.args.rows.now.lines.name _ (StoppedAt (turn_over g.W.ReadLines.readers (version_of c.args.version) c.args.own.now.ranges ls) c.args.rows.now n)
     (λ files file is held last. stopped_at (g.S.Shelf.contents c.args.shelf.now) (g.S.Shelf.contents c.read_turn.new.from) c.args.rows.now c.read_turn.new.rows d.shelf.kept d.name (d.going (ap row_error h.0) ∙ c.requires.going) files file is held (turn_over g.W.ReadLines.readers (version_of c.args.version) c.args.own.now.ranges ls) d.taken n (h.1 ∙ ap (λ (k : ℕ). k + 1) c.passed.ensures) (bad-was (λ o. option_map (g.W.ReadLines.tree c.args.own.now.ranges) o) (turn_over g.W.ReadLines.readers (version_of c.args.version) c.args.own.now.ranges ls) _ _ c.in-Err.halt h.0 (c.in-Err.ensures.gives ls kept (line-row g.W.ReadLines.readers (version_of c.args.version) c.requires.laws c.args.own.now.ranges c.requires.own ls are)))) (d.last (ap row_error h.0)))
     c.fault_behind.ensures.bad

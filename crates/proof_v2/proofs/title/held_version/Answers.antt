@@ -5,7 +5,7 @@ use Rattle.mc_shelf.specs.inner.OnlyReads.{OnlyReads}
 use Rattle.mc_shelf.specs.declared.lines.LineFault.{LineFault}
 use Rattle.mc_shelf.specs.declared.lines.LineFault.TheVariants as line
 use Rattle.group_text.specs.declared.version.Version.{Version as Known}
-use Rattle.proof_text.specs.inner.PulledRows.{WhereHeld}
+use Rattle.proof_text.specs.inner.PulledRows.{IfFile}
 use Rattle.proof_text.proofs.PullLemmas.{told_so}
 use Rattle.proof_v2.specs.Titles.{named_version}
 use Rattle.proof_v2.proofs.HeldVersions.{at-front, front-left, line-reads, named-line, named-nothing}
@@ -21,18 +21,18 @@ fault-of (Err f) = f
 pub returns-in-Ok-Some-clause-named : goal.returns-in-Ok-Some-clause-named
 returns-in-Ok-Some-clause-named g c =
     let told = g.S.Shelf.contents c.args.shelf.now in
-    let gives : WhereHeld told c.args.name.now (λ file. GivesFirstLine (Some c.in-Ok-Some.line) (bytes_left (at-front c.args.name.now c.title_size-most.result) file) (bytes_left c.next.new.self file)) =
-    subst (λ (l : LinesState). WhereHeld told l.name (λ file. GivesFirstLine (Some c.in-Ok-Some.line) (bytes_left l file) (bytes_left c.next.new.self file))) c.new-lines.ensures
-    (subst (λ (o : Option (List ℕ)). WhereHeld told c.new-lines.result.name (λ file. GivesFirstLine o (bytes_left c.new-lines.result file) (bytes_left c.next.new.self file))) c.in-Ok-Some.field-0-is c.in-Ok-Some.ensures.line) in
+    let gives : IfFile told c.args.name.now (λ file. GivesFirstLine (Some c.in-Ok-Some.line) (bytes_left (at-front c.args.name.now c.title_size-most.result) file) (bytes_left c.next.new.self file)) =
+    subst (λ (l : LinesState). IfFile told l.name (λ file. GivesFirstLine (Some c.in-Ok-Some.line) (bytes_left l file) (bytes_left c.next.new.self file))) c.new-lines.ensures
+    (subst (λ (o : Option (List ℕ)). IfFile told c.new-lines.result.name (λ file. GivesFirstLine o (bytes_left c.new-lines.result file) (bytes_left c.next.new.self file))) c.in-Ok-Some.field-0-is c.in-Ok-Some.ensures.line) in
     told_so told c.args.name.now _ _
     (λ files file is held k. c.named_version.ensures ∙ ap named_version (c.as_slice.ensures ∙ k.0 ∙ ap up_to_newline (front-left c.args.name.now c.title_size-most.result file)) ∙ named-line c.title_size-most.result c.args.size file c.title_size-most.ensures) gives
 
 pub returns-in-Ok-None-clause-named : goal.returns-in-Ok-None-clause-named
 returns-in-Ok-None-clause-named g c =
     let told = g.S.Shelf.contents c.args.shelf.now in
-    let gives : WhereHeld told c.args.name.now (λ file. GivesFirstLine None (bytes_left (at-front c.args.name.now c.title_size-most.result) file) (bytes_left c.next.new.self file)) =
-    subst (λ (l : LinesState). WhereHeld told l.name (λ file. GivesFirstLine None (bytes_left l file) (bytes_left c.next.new.self file))) c.new-lines.ensures
-    (subst (λ (o : Option (List ℕ)). WhereHeld told c.new-lines.result.name (λ file. GivesFirstLine o (bytes_left c.new-lines.result file) (bytes_left c.next.new.self file))) c.in-Ok-None.field-0-is c.in-Ok-None.ensures.line) in
+    let gives : IfFile told c.args.name.now (λ file. GivesFirstLine None (bytes_left (at-front c.args.name.now c.title_size-most.result) file) (bytes_left c.next.new.self file)) =
+    subst (λ (l : LinesState). IfFile told l.name (λ file. GivesFirstLine None (bytes_left l file) (bytes_left c.next.new.self file))) c.new-lines.ensures
+    (subst (λ (o : Option (List ℕ)). IfFile told c.new-lines.result.name (λ file. GivesFirstLine o (bytes_left c.new-lines.result file) (bytes_left c.next.new.self file))) c.in-Ok-None.field-0-is c.in-Ok-None.ensures.line) in
     told_so told c.args.name.now _ _
     (λ files file is held k. named-nothing c.title_size-most.result c.args.size file c.title_size-most.ensures (sym (front-left c.args.name.now c.title_size-most.result file) ∙ k.0)) gives
 

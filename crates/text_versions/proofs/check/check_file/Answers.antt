@@ -3,7 +3,7 @@ use Rattle.mc_shelf.specs.declared.lines.LineFault.{LineFault}
 use Rattle.mc_shelf.specs.Lines.{LinesState}
 use Rattle.mc_shelf.specs.inner.OnlyReads.{OnlyReads}
 use Rattle.mc_shelf.proofs.OnlyReadsLemmas.{reads_so, reads_then}
-use Rattle.proof_text.specs.inner.Drawing.{where_held}
+use Rattle.proof_text.specs.inner.Drawing.{if_file}
 use Rattle.checker.specs.Pulled.{is_outside}
 use Rattle.checker.specs.declared.verdict.Verdict.TheVariants as verdict
 use Rattle.checker.proofs.SourceLemmas.{held-so}
@@ -41,14 +41,14 @@ returns-in-Err-Fault-clause-shelf g c = reads_so (λ _. ap (λ (f : LineFault). 
 
 pub returns-in-Err-NoMemory-clause-verdict : goal.returns-in-Err-NoMemory-clause-verdict
 returns-in-Err-NoMemory-clause-verdict g c elf readable is =
-    where_held (g.S.Shelf.contents c.args.shelf.now) c.args.name.now (λ file. SaysOf elf (take c.args.size file) verdict.NoMemory)
+    if_file (g.S.Shelf.contents c.args.shelf.now) c.args.name.now (λ file. SaysOf elf (take c.args.size file) verdict.NoMemory)
     (λ file. says-nothing (further_of (named_version (take c.args.size file))) (named_version (take c.args.size file)) elf (take c.args.size file))
 
 pub returns-in-Err-NoMemory-clause-headline : goal.returns-in-Err-NoMemory-clause-headline
-returns-in-Err-NoMemory-clause-headline g c elf readable is = where_held (g.S.Shelf.contents c.args.shelf.now) c.args.name.now _ (λ file accepts. absurd accepts)
+returns-in-Err-NoMemory-clause-headline g c elf readable is = if_file (g.S.Shelf.contents c.args.shelf.now) c.args.name.now _ (λ file accepts. absurd accepts)
 
 pub returns-in-Err-NoMemory-clause-exact : goal.returns-in-Err-NoMemory-clause-exact
-returns-in-Err-NoMemory-clause-exact g c elf readable is = where_held (g.S.Shelf.contents c.args.shelf.now) c.args.name.now _ (λ file v says. inr (inr refl))
+returns-in-Err-NoMemory-clause-exact g c elf readable is = if_file (g.S.Shelf.contents c.args.shelf.now) c.args.name.now _ (λ file v says. inr (inr refl))
 
 pub returns-in-Err-NoMemory-clause-shelf : goal.returns-in-Err-NoMemory-clause-shelf
 returns-in-Err-NoMemory-clause-shelf g c = reads_so (λ failed. absurd (true≢false (sym failed))) c.in-Err-NoMemory.ensures.shelf

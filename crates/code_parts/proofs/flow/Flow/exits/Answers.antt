@@ -1,7 +1,7 @@
 use Rattle.std.proofs.Common.{ap, ◌∙◌}
 use Rattle.loop_forest.specs.Forest.{exits_of}
 use Rattle.code_parts.specs.Kept.{FlowOf}
-use Rattle.code_parts.proofs.Settings.{exits_within}
+use Rattle.code_parts.proofs.Contexts.{exits_within}
 use Rattle.code_parts.proofs.flow.Flow.exits.Goals as goal
 
 pub returns-clause-nodes : goal.returns-clause-nodes

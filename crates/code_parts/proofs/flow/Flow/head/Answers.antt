@@ -1,7 +1,7 @@
 use Rattle.std.proofs.Common.{ap, ◌∙◌}
 use Rattle.loop_forest.specs.Forest.{head_of}
 use Rattle.code_parts.specs.Kept.{FlowOf}
-use Rattle.code_parts.proofs.Settings.{head_within}
+use Rattle.code_parts.proofs.Contexts.{head_within}
 use Rattle.code_parts.proofs.flow.Flow.head.Goals as goal
 
 pub returns-clause-node : goal.returns-clause-node

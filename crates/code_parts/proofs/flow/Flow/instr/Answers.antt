@@ -1,7 +1,7 @@
 use Rattle.std.proofs.Common.{ap, ◌∙◌}
 use Rattle.std.specs.Prelude.{slice_get}
 use Rattle.code_parts.specs.Kept.{FlowOf}
-use Rattle.code_parts.proofs.Settings.{writes_register}
+use Rattle.code_parts.proofs.Contexts.{writes_register}
 use Rattle.code_parts.proofs.flow.Flow.instr.Goals as goal
 
 pub returns-clause-named : goal.returns-clause-named

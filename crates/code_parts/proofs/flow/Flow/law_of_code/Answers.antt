@@ -1,4 +1,4 @@
-use Rattle.code_parts.proofs.Settings.{code_stands}
+use Rattle.code_parts.proofs.Contexts.{code_stands}
 use Rattle.code_parts.proofs.flow.Flow.law_of_code.Goals as goal
 
 pub returns : goal.returns

@@ -1,4 +1,4 @@
-use Rattle.code_parts.proofs.Settings.{graph_is}
+use Rattle.code_parts.proofs.Contexts.{graph_is}
 use Rattle.code_parts.proofs.flow.Flow.law_of_graphs.Goals as goal
 
 pub returns : goal.returns

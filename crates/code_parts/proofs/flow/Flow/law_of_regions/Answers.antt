@@ -1,4 +1,4 @@
-use Rattle.code_parts.proofs.Settings.{region_is}
+use Rattle.code_parts.proofs.Contexts.{region_is}
 use Rattle.code_parts.proofs.flow.Flow.law_of_regions.Goals as goal
 
 pub returns : goal.returns

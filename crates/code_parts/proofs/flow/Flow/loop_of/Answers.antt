@@ -1,7 +1,7 @@
 use Rattle.std.proofs.Common.{length, sym, ap, ◌∙◌, arith, eq-eqb}
 use Rattle.loop_forest.specs.Forest.{head_of}
 use Rattle.code_parts.specs.Kept.{FlowOf}
-use Rattle.code_parts.proofs.Settings.{index_found, index_missing}
+use Rattle.code_parts.proofs.Contexts.{index_found, index_missing}
 use Rattle.code_parts.proofs.flow.Flow.loop_of.Goals as goal
 
 pub returns-then-head-n-clause-is : goal.returns-then-head-n-clause-is

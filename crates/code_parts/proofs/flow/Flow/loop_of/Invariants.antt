@@ -1,4 +1,4 @@
-use Rattle.code_parts.proofs.Settings.{IsMissing}
+use Rattle.code_parts.proofs.Contexts.{IsMissing}
 use Rattle.code_parts.proofs.flow.Flow.loop_of.Given as goal
 
 abbrev pub invariant-loop-l : goal.invariant-loop-l

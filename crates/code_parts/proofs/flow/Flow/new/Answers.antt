@@ -1,6 +1,6 @@
 use Rattle.std.proofs.Common.{[], refl}
 use Rattle.code_parts.specs.Kept.{FlowOf}
-use Rattle.code_parts.proofs.Settings.{alone_is, flow_alone, kept_alone}
+use Rattle.code_parts.proofs.Contexts.{alone_is, flow_alone, kept_alone}
 use Rattle.code_parts.proofs.flow.Flow.new.Goals as goal
 
 pub invariant_of-result : goal.invariant_of-result
@@ -14,7 +14,7 @@ returns-clause-alone c =
     let flow : FlowOf = record {
       graph = c.args.graph.now;
       forest = c.args.forest.now;
-      setting = record { base = 0; parts = c.args.parts.now; regs = c.in_ok-regs.regs; mems = c.one_if.result; second = []; functions = [] };
+      context = record { base = 0; parts = c.args.parts.now; regs = c.in_ok-regs.regs; mems = c.one_if.result; second = []; functions = [] };
       code = c.in_ok-code.code.ranges;
     } in
     flow_alone c.args.graph.now c.args.forest.now c.args.parts.now flow c.requires.reached refl refl

@@ -1,6 +1,6 @@
 use Rattle.std.proofs.Common.{ℕ, ◌<◌, ◌≤◌, List, length, sym, subst}
 use Rattle.std.specs.List.{All}
-use Rattle.code_parts.proofs.Settings.{registers_few, registers_named}
+use Rattle.code_parts.proofs.Contexts.{registers_few, registers_named}
 use Rattle.code_parts.proofs.flow.Flow.regs.Goals as goal
 
 pub returns-clause-few : goal.returns-clause-few

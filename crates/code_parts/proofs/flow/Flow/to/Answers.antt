@@ -3,7 +3,7 @@ use Rattle.flow_graph.specs.Graph.{succs_of}
 use Rattle.triple_kernel.specs.declared.form.Form.{Form}
 use Rattle.code_parts.specs.Flows.{edge_number}
 use Rattle.code_parts.specs.Kept.{FlowOf}
-use Rattle.code_parts.proofs.Settings.{edge_within, second_is}
+use Rattle.code_parts.proofs.Contexts.{edge_within, second_is}
 use Rattle.code_parts.proofs.flow.Flow.to.Goals as goal
 
 pub returns-in-Next-clause-node : goal.returns-in-Next-clause-node

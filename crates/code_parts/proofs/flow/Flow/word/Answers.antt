@@ -1,4 +1,4 @@
-use Rattle.code_parts.proofs.Settings.{word_stands}
+use Rattle.code_parts.proofs.Contexts.{word_stands}
 use Rattle.code_parts.proofs.flow.Flow.word.Goals as goal
 
 pub returns-clause-stands : goal.returns-clause-stands

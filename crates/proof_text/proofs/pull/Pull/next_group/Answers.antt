@@ -13,7 +13,7 @@ use Rattle.proof_text.specs.FirstProofs.{HasGivenOver, MayOpen}
 use Rattle.proof_text.specs.Answers.{NoItemOver}
 use Rattle.proof_text.specs.Pulling.{PullState, Pulls, IfBad, progress_in, held_text}
 use Rattle.proof_text.specs.inner.LineReaders.{ReadsLines}
-use Rattle.proof_text.specs.inner.PulledRows.{EndsSo, WhereHeld, rows_left}
+use Rattle.proof_text.specs.inner.PulledRows.{EndsSo, IfFile, rows_left}
 use Rattle.proof_text.specs.inner.Pulling.{EndsBehind, ReadFrom}
 use Rattle.proof_text.proofs.PullAnswers.{bad_all, bad_so}
 use Rattle.proof_text.proofs.PullCalls.{group_ended, group_followed, group_given, group_shorter, group_stopped}
@@ -57,9 +57,9 @@ returns-in-Ok-Some-clause-given g c =
     let place = inside.1 c.if-self.false in
     let d = c.in-Ok-Some.ensures.draws in
     let new : PullState = record { version = c.self.inside.version; rows = c.next_group.new.rows; place = c.passed-self-inside.result; ended = c.self.inside.ended; refused = c.self.inside.refused } in
-    let gives : WhereHeld (g.S.Shelf.contents c.args.shelf.now) before.rows.lines.name (ReadFrom (turn_at (version_of before.version) (eqb before.place 0)) (Some (group_tree c.in-Ok-Some.group)) before.rows new.rows) =
-    subst (λ (o : Option Group). IfSome o (λ x. WhereHeld (g.S.Shelf.contents c.args.shelf.now) before.rows.lines.name (ReadFrom (turn_at (version_of before.version) (eqb before.place 0)) (Some (group_tree x)) before.rows new.rows))) c.in-Ok-Some.field-0-is c.in-Ok-Some.ensures.given in
-    subst (λ (s : PullState). WhereHeld (g.S.Shelf.contents c.args.shelf.now) s.rows.lines.name (λ (file : List ℕ). (ps : List (ProofOf g.W.ReadLines.readers.grammar.Line)) → HasGivenOver g.W.ReadLines.readers.grammar ps (progress_in s file) → HasGivenOver g.W.ReadLines.readers.grammar (ps ++ bare (group_tree c.in-Ok-Some.group) ∷ []) (progress_in new file))) c.self.view_is
+    let gives : IfFile (g.S.Shelf.contents c.args.shelf.now) before.rows.lines.name (ReadFrom (turn_at (version_of before.version) (eqb before.place 0)) (Some (group_tree c.in-Ok-Some.group)) before.rows new.rows) =
+    subst (λ (o : Option Group). IfSome o (λ x. IfFile (g.S.Shelf.contents c.args.shelf.now) before.rows.lines.name (ReadFrom (turn_at (version_of before.version) (eqb before.place 0)) (Some (group_tree x)) before.rows new.rows))) c.in-Ok-Some.field-0-is c.in-Ok-Some.ensures.given in
+    subst (λ (s : PullState). IfFile (g.S.Shelf.contents c.args.shelf.now) s.rows.lines.name (λ (file : List ℕ). (ps : List (ProofOf g.W.ReadLines.readers.grammar.Line)) → HasGivenOver g.W.ReadLines.readers.grammar ps (progress_in s file) → HasGivenOver g.W.ReadLines.readers.grammar (ps ++ bare (group_tree c.in-Ok-Some.group) ∷ []) (progress_in new file))) c.self.view_is
     (told_so (g.S.Shelf.contents c.args.shelf.now) before.rows.lines.name _ _ (λ files file is held k. group_given g.W.ReadLines.readers before (subst (λ (s : PullState). ReadsLines g.W.ReadLines.readers (version_of s.version)) (sym c.self.view_is) c.requires) file place new refl d.size c.passed-self-inside.ensures (group_tree c.in-Ok-Some.group) k) gives)
 
 pub returns-in-Ok-Some-clause-shorter : goal.returns-in-Ok-Some-clause-shorter
@@ -69,9 +69,9 @@ returns-in-Ok-Some-clause-shorter g c =
     let place = inside.1 c.if-self.false in
     let d = c.in-Ok-Some.ensures.draws in
     let new : PullState = record { version = c.self.inside.version; rows = c.next_group.new.rows; place = c.passed-self-inside.result; ended = c.self.inside.ended; refused = c.self.inside.refused } in
-    let gives : WhereHeld (g.S.Shelf.contents c.args.shelf.now) before.rows.lines.name (ReadFrom (turn_at (version_of before.version) (eqb before.place 0)) (Some (group_tree c.in-Ok-Some.group)) before.rows new.rows) =
-    subst (λ (o : Option Group). IfSome o (λ x. WhereHeld (g.S.Shelf.contents c.args.shelf.now) before.rows.lines.name (ReadFrom (turn_at (version_of before.version) (eqb before.place 0)) (Some (group_tree x)) before.rows new.rows))) c.in-Ok-Some.field-0-is c.in-Ok-Some.ensures.given in
-    subst (λ (s : PullState). WhereHeld (g.S.Shelf.contents c.args.shelf.now) s.rows.lines.name (λ (file : List ℕ). length (progress_in new file).rest < length (progress_in s file).rest)) c.self.view_is
+    let gives : IfFile (g.S.Shelf.contents c.args.shelf.now) before.rows.lines.name (ReadFrom (turn_at (version_of before.version) (eqb before.place 0)) (Some (group_tree c.in-Ok-Some.group)) before.rows new.rows) =
+    subst (λ (o : Option Group). IfSome o (λ x. IfFile (g.S.Shelf.contents c.args.shelf.now) before.rows.lines.name (ReadFrom (turn_at (version_of before.version) (eqb before.place 0)) (Some (group_tree x)) before.rows new.rows))) c.in-Ok-Some.field-0-is c.in-Ok-Some.ensures.given in
+    subst (λ (s : PullState). IfFile (g.S.Shelf.contents c.args.shelf.now) s.rows.lines.name (λ (file : List ℕ). length (progress_in new file).rest < length (progress_in s file).rest)) c.self.view_is
     (told_so (g.S.Shelf.contents c.args.shelf.now) before.rows.lines.name _ _ (λ files file is held k. group_shorter g.W.ReadLines.readers before (subst (λ (s : PullState). ReadsLines g.W.ReadLines.readers (version_of s.version)) (sym c.self.view_is) c.requires) file place new refl d.size c.passed-self-inside.ensures (group_tree c.in-Ok-Some.group) k) gives)
 
 pub returns-in-Ok-Some-clause-fits : goal.returns-in-Ok-Some-clause-fits
@@ -96,9 +96,9 @@ returns-in-Ok-None-clause-end g c =
     let place = inside.1 c.if-self.false in
     let d = c.in-Ok-None.ensures.draws in
     let new : PullState = record { version = c.self.inside.version; rows = c.next_group.new.rows; place = c.self.inside.place; ended = true; refused = c.self.inside.refused } in
-    let ends : WhereHeld (g.S.Shelf.contents c.args.shelf.now) before.rows.lines.name (λ (file : List ℕ). (n : ℕ) × EndsBehind (turn_at (version_of before.version) (eqb before.place 0)) before.rows file n (EndsSo true)) =
-    subst (λ (o : Option Group). IfNone o (WhereHeld (g.S.Shelf.contents c.args.shelf.now) before.rows.lines.name (λ (file : List ℕ). (n : ℕ) × EndsBehind (turn_at (version_of before.version) (eqb before.place 0)) before.rows file n (EndsSo true)))) c.in-Ok-None.field-0-is c.in-Ok-None.ensures.end in
-    λ open_. subst (λ (s : PullState). WhereHeld (g.S.Shelf.contents c.args.shelf.now) s.rows.lines.name (λ (file : List ℕ). (ps : List (ProofOf g.W.ReadLines.readers.grammar.Line)) → HasGivenOver g.W.ReadLines.readers.grammar ps (progress_in s file) → held_text s file ≡ text_over g.W.ReadLines.readers.grammar (version_of s.version) ps)) c.self.view_is
+    let ends : IfFile (g.S.Shelf.contents c.args.shelf.now) before.rows.lines.name (λ (file : List ℕ). (n : ℕ) × EndsBehind (turn_at (version_of before.version) (eqb before.place 0)) before.rows file n (EndsSo true)) =
+    subst (λ (o : Option Group). IfNone o (IfFile (g.S.Shelf.contents c.args.shelf.now) before.rows.lines.name (λ (file : List ℕ). (n : ℕ) × EndsBehind (turn_at (version_of before.version) (eqb before.place 0)) before.rows file n (EndsSo true)))) c.in-Ok-None.field-0-is c.in-Ok-None.ensures.end in
+    λ open_. subst (λ (s : PullState). IfFile (g.S.Shelf.contents c.args.shelf.now) s.rows.lines.name (λ (file : List ℕ). (ps : List (ProofOf g.W.ReadLines.readers.grammar.Line)) → HasGivenOver g.W.ReadLines.readers.grammar ps (progress_in s file) → held_text s file ≡ text_over g.W.ReadLines.readers.grammar (version_of s.version) ps)) c.self.view_is
     (told_so (g.S.Shelf.contents c.args.shelf.now) before.rows.lines.name _ _ (λ files file is held k. group_ended g.W.ReadLines.readers before (subst (λ (s : PullState). ReadsLines g.W.ReadLines.readers (version_of s.version)) (sym c.self.view_is) c.requires) file place k.0 k.1) ends)
 
 pub returns-in-Ok-None-clause-pulls : goal.returns-in-Ok-None-clause-pulls
@@ -117,8 +117,8 @@ returns-in-Err-clause-bad g c =
     let before : PullState = record { version = c.self.inside.version; rows = c.self.inside.rows; place = c.self.inside.place; ended = c.self.inside.ended; refused = c.self.inside.refused } in
     let inside = c.self.invariant c.in_default.is in
     let place = inside.1 c.if-self.false in
-    subst (λ (s : PullState). IfBad c.in-Err.fault (λ (n : ℕ). s.refused ≡ None → WhereHeld (g.S.Shelf.contents c.args.shelf.now) s.rows.lines.name (λ (file : List ℕ). (ps : List (ProofOf g.W.ReadLines.readers.grammar.Line)) → HasGivenOver g.W.ReadLines.readers.grammar ps (progress_in s file) → MayOpen ps (progress_in s file).rest → IsBadAt (texts_over g.W.ReadLines.readers.grammar (version_of s.version)) (held_text s file) n × NoItemOver g.W.ReadLines.readers.grammar ps (progress_in s file)))) c.self.view_is
-    (bad_so c.in-Err.fault _ (λ (n : ℕ). before.refused ≡ None → WhereHeld (g.S.Shelf.contents c.args.shelf.now) before.rows.lines.name (λ (file : List ℕ). (ps : List (ProofOf g.W.ReadLines.readers.grammar.Line)) → HasGivenOver g.W.ReadLines.readers.grammar ps (progress_in before file) → MayOpen ps (progress_in before file).rest → IsBadAt (texts_over g.W.ReadLines.readers.grammar (version_of before.version)) (held_text before file) n × NoItemOver g.W.ReadLines.readers.grammar ps (progress_in before file)))
+    subst (λ (s : PullState). IfBad c.in-Err.fault (λ (n : ℕ). s.refused ≡ None → IfFile (g.S.Shelf.contents c.args.shelf.now) s.rows.lines.name (λ (file : List ℕ). (ps : List (ProofOf g.W.ReadLines.readers.grammar.Line)) → HasGivenOver g.W.ReadLines.readers.grammar ps (progress_in s file) → MayOpen ps (progress_in s file).rest → IsBadAt (texts_over g.W.ReadLines.readers.grammar (version_of s.version)) (held_text s file) n × NoItemOver g.W.ReadLines.readers.grammar ps (progress_in s file)))) c.self.view_is
+    (bad_so c.in-Err.fault _ (λ (n : ℕ). before.refused ≡ None → IfFile (g.S.Shelf.contents c.args.shelf.now) before.rows.lines.name (λ (file : List ℕ). (ps : List (ProofOf g.W.ReadLines.readers.grammar.Line)) → HasGivenOver g.W.ReadLines.readers.grammar ps (progress_in before file) → MayOpen ps (progress_in before file).rest → IsBadAt (texts_over g.W.ReadLines.readers.grammar (version_of before.version)) (held_text before file) n × NoItemOver g.W.ReadLines.readers.grammar ps (progress_in before file)))
     (λ n stops going. told_so (g.S.Shelf.contents c.args.shelf.now) before.rows.lines.name _ _
     (λ files file is held k ps h may. elim k [ inl s ↦ group_stopped g.W.ReadLines.readers before (subst (λ (s : PullState). ReadsLines g.W.ReadLines.readers (version_of s.version)) (sym c.self.view_is) c.requires) file place n s ps h may | inr m ↦ group_followed g.W.ReadLines.readers before (subst (λ (s : PullState). ReadsLines g.W.ReadLines.readers (version_of s.version)) (sym c.self.view_is) c.requires) file place n m.0 m.1 m.2 ps h may ]) stops) c.in-Err.ensures.bad)
 

@@ -11,7 +11,7 @@ use Rattle.proof_text.specs.FirstProofs.{HasGivenOver, ProofEnds, with_line}
 use Rattle.proof_text.specs.Answers.{NoItemOver}
 use Rattle.proof_text.specs.Pulling.{PullState, Pulls, IfBad, progress_in, held_text}
 use Rattle.proof_text.specs.inner.LineReaders.{ReadsLines, turn_over}
-use Rattle.proof_text.specs.inner.PulledRows.{WhereHeld}
+use Rattle.proof_text.specs.inner.PulledRows.{IfFile}
 use Rattle.proof_text.specs.inner.Pulling.{ReadFrom}
 use Rattle.proof_text.proofs.PullAnswers.{bad_all, bad_so, none_so, some_so}
 use Rattle.proof_text.proofs.PullCalls.{line_given, line_shorter, line_stopped, lines_ended}
@@ -58,8 +58,8 @@ returns-in-Ok-clause-given g c =
     let new : PullState = record { version = c.self.inside.version; rows = c.next_line.new.rows; place = c.passed-self-inside.result; ended = c.self.inside.ended; refused = c.self.inside.refused } in
     let fits : IsGroupIn (version_of before.version) (group_tree c.args.group.now) = subst (λ (s : PullState). IsGroupIn (version_of s.version) (group_tree c.args.group.now)) (sym c.self.view_is) c.requires.group in
     let are : g.W.ReadLines.readers.grammar.Are (version_of before.version) ls = subst (λ (s : PullState). g.W.ReadLines.readers.grammar.Are (version_of s.version) ls) (sym c.self.view_is) were in
-    some_so c.in-Ok.found (λ x. WhereHeld (g.S.Shelf.contents c.args.shelf.now) before.rows.lines.name (ReadFrom (turn_over g.W.ReadLines.readers (version_of before.version) c.args.group.now.code.ranges ls) (Some (g.W.ReadLines.tree c.args.group.now.code.ranges x)) before.rows new.rows)) _
-    (λ x gives. subst (λ (s : PullState). WhereHeld (g.S.Shelf.contents c.args.shelf.now) s.rows.lines.name (λ (file : List ℕ). (ps : List (ProofOf g.W.ReadLines.readers.grammar.Line)) (p : ProofOf g.W.ReadLines.readers.grammar.Line) → HasGivenOver g.W.ReadLines.readers.grammar (ps ++ p ∷ []) (progress_in s file) → p.group ≡ group_tree c.args.group.now → p.lines ≡ ls → HasGivenOver g.W.ReadLines.readers.grammar (ps ++ with_line p (g.W.ReadLines.tree c.args.group.now.code.ranges x) ∷ []) (progress_in new file))) c.self.view_is
+    some_so c.in-Ok.found (λ x. IfFile (g.S.Shelf.contents c.args.shelf.now) before.rows.lines.name (ReadFrom (turn_over g.W.ReadLines.readers (version_of before.version) c.args.group.now.code.ranges ls) (Some (g.W.ReadLines.tree c.args.group.now.code.ranges x)) before.rows new.rows)) _
+    (λ x gives. subst (λ (s : PullState). IfFile (g.S.Shelf.contents c.args.shelf.now) s.rows.lines.name (λ (file : List ℕ). (ps : List (ProofOf g.W.ReadLines.readers.grammar.Line)) (p : ProofOf g.W.ReadLines.readers.grammar.Line) → HasGivenOver g.W.ReadLines.readers.grammar (ps ++ p ∷ []) (progress_in s file) → p.group ≡ group_tree c.args.group.now → p.lines ≡ ls → HasGivenOver g.W.ReadLines.readers.grammar (ps ++ with_line p (g.W.ReadLines.tree c.args.group.now.code.ranges x) ∷ []) (progress_in new file))) c.self.view_is
     (told_so (g.S.Shelf.contents c.args.shelf.now) before.rows.lines.name _ _ (λ files file is held k. (line_given g.W.ReadLines.readers before (subst (λ (s : PullState). ReadsLines g.W.ReadLines.readers (version_of s.version)) (sym c.self.view_is) c.requires.laws) file place new refl d.size c.passed-self-inside.ensures (group_tree c.args.group.now) fits ls (g.W.ReadLines.tree c.args.group.now.code.ranges x) k)) gives)) (c.in-Ok.ensures.given ls kept are)
 
 pub returns-in-Ok-clause-shorter : goal.returns-in-Ok-clause-shorter
@@ -72,8 +72,8 @@ returns-in-Ok-clause-shorter g c =
     let fits : IsGroupIn (version_of before.version) (group_tree c.args.group.now) = subst (λ (s : PullState). IsGroupIn (version_of s.version) (group_tree c.args.group.now)) (sym c.self.view_is) c.requires.group in
     let ls = c.requires.kept.0 in
     let are : g.W.ReadLines.readers.grammar.Are (version_of before.version) ls = subst (λ (s : PullState). g.W.ReadLines.readers.grammar.Are (version_of s.version) ls) (sym c.self.view_is) c.requires.kept.2 in
-    some_so c.in-Ok.found (λ x. WhereHeld (g.S.Shelf.contents c.args.shelf.now) before.rows.lines.name (ReadFrom (turn_over g.W.ReadLines.readers (version_of before.version) c.args.group.now.code.ranges ls) (Some (g.W.ReadLines.tree c.args.group.now.code.ranges x)) before.rows new.rows)) _
-    (λ x gives. subst (λ (s : PullState). WhereHeld (g.S.Shelf.contents c.args.shelf.now) s.rows.lines.name (λ (file : List ℕ). length (progress_in new file).rest < length (progress_in s file).rest)) c.self.view_is
+    some_so c.in-Ok.found (λ x. IfFile (g.S.Shelf.contents c.args.shelf.now) before.rows.lines.name (ReadFrom (turn_over g.W.ReadLines.readers (version_of before.version) c.args.group.now.code.ranges ls) (Some (g.W.ReadLines.tree c.args.group.now.code.ranges x)) before.rows new.rows)) _
+    (λ x gives. subst (λ (s : PullState). IfFile (g.S.Shelf.contents c.args.shelf.now) s.rows.lines.name (λ (file : List ℕ). length (progress_in new file).rest < length (progress_in s file).rest)) c.self.view_is
     (told_so (g.S.Shelf.contents c.args.shelf.now) before.rows.lines.name _ _ (λ files file is held k. line_shorter g.W.ReadLines.readers before (subst (λ (s : PullState). ReadsLines g.W.ReadLines.readers (version_of s.version)) (sym c.self.view_is) c.requires.laws) file place new refl d.size c.passed-self-inside.ensures (group_tree c.args.group.now) fits ls are (g.W.ReadLines.tree c.args.group.now.code.ranges x) k) gives)) (c.in-Ok.ensures.given ls c.requires.kept.1 are)
 
 pub returns-in-Ok-clause-end : goal.returns-in-Ok-clause-end
@@ -86,8 +86,8 @@ returns-in-Ok-clause-end g c =
     let code : IsCode c.args.group.now.code.ranges = (c.requires.group.code, c.requires.group.bytes) in
     let ls = c.requires.kept.0 in
     let are : g.W.ReadLines.readers.grammar.Are (version_of before.version) ls = subst (λ (s : PullState). g.W.ReadLines.readers.grammar.Are (version_of s.version) ls) (sym c.self.view_is) c.requires.kept.2 in
-    none_so c.in-Ok.found (WhereHeld (g.S.Shelf.contents c.args.shelf.now) before.rows.lines.name (ReadFrom (turn_over g.W.ReadLines.readers (version_of before.version) c.args.group.now.code.ranges ls) None before.rows new.rows)) _
-    (λ ends open_. subst (λ (s : PullState). WhereHeld (g.S.Shelf.contents c.args.shelf.now) s.rows.lines.name (λ (file : List ℕ). (progress_in new file ≡ progress_in s file) × ProofEnds (progress_in s file).rest)) c.self.view_is
+    none_so c.in-Ok.found (IfFile (g.S.Shelf.contents c.args.shelf.now) before.rows.lines.name (ReadFrom (turn_over g.W.ReadLines.readers (version_of before.version) c.args.group.now.code.ranges ls) None before.rows new.rows)) _
+    (λ ends open_. subst (λ (s : PullState). IfFile (g.S.Shelf.contents c.args.shelf.now) s.rows.lines.name (λ (file : List ℕ). (progress_in new file ≡ progress_in s file) × ProofEnds (progress_in s file).rest)) c.self.view_is
     (told_so (g.S.Shelf.contents c.args.shelf.now) before.rows.lines.name _ _ (λ files file is held k. lines_ended g.W.ReadLines.readers before (subst (λ (s : PullState). ReadsLines g.W.ReadLines.readers (version_of s.version)) (sym c.self.view_is) c.requires.laws) file place new refl d.size (group_tree c.args.group.now) code ls are c.passed-self-inside.ensures k) ends)) (c.in-Ok.ensures.end ls c.requires.kept.1 are)
 
 pub returns-in-Ok-clause-pulls : goal.returns-in-Ok-clause-pulls
@@ -107,8 +107,8 @@ returns-in-Err-clause-bad g c =
     let inside = c.self.invariant c.in_default.is in
     let place = inside.1 c.if-self.false in
     let are : g.W.ReadLines.readers.grammar.Are (version_of before.version) ls = subst (λ (s : PullState). g.W.ReadLines.readers.grammar.Are (version_of s.version) ls) (sym c.self.view_is) were in
-    subst (λ (s : PullState). IfBad c.in-Err.fault (λ (n : ℕ). s.refused ≡ None → WhereHeld (g.S.Shelf.contents c.args.shelf.now) s.rows.lines.name (λ (file : List ℕ). (ps : List (ProofOf g.W.ReadLines.readers.grammar.Line)) (p : ProofOf g.W.ReadLines.readers.grammar.Line) → HasGivenOver g.W.ReadLines.readers.grammar (ps ++ p ∷ []) (progress_in s file) → p.group ≡ group_tree c.args.group.now → p.lines ≡ ls → IsBadAt (texts_over g.W.ReadLines.readers.grammar (version_of s.version)) (held_text s file) n × NoItemOver g.W.ReadLines.readers.grammar (ps ++ p ∷ []) (progress_in s file)))) c.self.view_is
-    (bad_so c.in-Err.fault _ (λ (n : ℕ). before.refused ≡ None → WhereHeld (g.S.Shelf.contents c.args.shelf.now) before.rows.lines.name (λ (file : List ℕ). (ps : List (ProofOf g.W.ReadLines.readers.grammar.Line)) (p : ProofOf g.W.ReadLines.readers.grammar.Line) → HasGivenOver g.W.ReadLines.readers.grammar (ps ++ p ∷ []) (progress_in before file) → p.group ≡ group_tree c.args.group.now → p.lines ≡ ls → IsBadAt (texts_over g.W.ReadLines.readers.grammar (version_of before.version)) (held_text before file) n × NoItemOver g.W.ReadLines.readers.grammar (ps ++ p ∷ []) (progress_in before file)))
+    subst (λ (s : PullState). IfBad c.in-Err.fault (λ (n : ℕ). s.refused ≡ None → IfFile (g.S.Shelf.contents c.args.shelf.now) s.rows.lines.name (λ (file : List ℕ). (ps : List (ProofOf g.W.ReadLines.readers.grammar.Line)) (p : ProofOf g.W.ReadLines.readers.grammar.Line) → HasGivenOver g.W.ReadLines.readers.grammar (ps ++ p ∷ []) (progress_in s file) → p.group ≡ group_tree c.args.group.now → p.lines ≡ ls → IsBadAt (texts_over g.W.ReadLines.readers.grammar (version_of s.version)) (held_text s file) n × NoItemOver g.W.ReadLines.readers.grammar (ps ++ p ∷ []) (progress_in s file)))) c.self.view_is
+    (bad_so c.in-Err.fault _ (λ (n : ℕ). before.refused ≡ None → IfFile (g.S.Shelf.contents c.args.shelf.now) before.rows.lines.name (λ (file : List ℕ). (ps : List (ProofOf g.W.ReadLines.readers.grammar.Line)) (p : ProofOf g.W.ReadLines.readers.grammar.Line) → HasGivenOver g.W.ReadLines.readers.grammar (ps ++ p ∷ []) (progress_in before file) → p.group ≡ group_tree c.args.group.now → p.lines ≡ ls → IsBadAt (texts_over g.W.ReadLines.readers.grammar (version_of before.version)) (held_text before file) n × NoItemOver g.W.ReadLines.readers.grammar (ps ++ p ∷ []) (progress_in before file)))
     (λ n stops going. told_so (g.S.Shelf.contents c.args.shelf.now) before.rows.lines.name _ _
     (λ files file is held k ps p h same lines. line_stopped g.W.ReadLines.readers before (subst (λ (s : PullState). ReadsLines g.W.ReadLines.readers (version_of s.version)) (sym c.self.view_is) c.requires.laws) file place (group_tree c.args.group.now) ls ps p h same lines n k) stops) (c.in-Err.ensures.bad ls kept are))
 

@@ -3,7 +3,7 @@ use Rattle.mc_shelf.specs.Lines.{AllGiven, GivesFirstLine, bytes_left}
 use Rattle.mc_shelf.specs.declared.lines.LineFault.{LineFault}
 use Rattle.group_text.specs.inner.Rows.{IsRow, RowPosition}
 use Rattle.group_text.specs.declared.read_error.RowError.TheVariants as row
-use Rattle.proof_text.specs.inner.PulledRows.{PulledState, IsTail, IsPulledPlace, Draws, WhereHeld, held_bytes}
+use Rattle.proof_text.specs.inner.PulledRows.{PulledState, IsTail, IsPulledPlace, Draws, IfFile, held_bytes}
 use Rattle.proof_text.proofs.Drawn.{drew_error, drew_line, drew_none, held-of, none-of, not-refused, row_error_of, tail-of}
 use Rattle.proof_text.proofs.Pulled.{begins_with_held, ends_in_tail, line_was_pulled, line_is_held, with_lines}
 use Rattle.proof_text.proofs.pulled_rows.PulledRowsRows.hold.Goals as goal
@@ -43,8 +43,8 @@ pub returns-in-Ok-Some-clause-lends : goal.returns-in-Ok-Some-clause-lends
 returns-in-Ok-Some-clause-lends g c =
     let before : PulledState = record { lines = c.self.inside.lines; held = held_bytes c.self.inside.held; tail = held_bytes c.self.inside.tail; taken = c.self.inside.taken } in
     let going = not-refused before.lines.refused c.next.result c.in-Ok-Some.field-0 c.in-Ok-Some.is c.next.ensures.again in
-    let gives : WhereHeld (g.S.Shelf.contents c.args.from.now) before.lines.name (λ file. GivesFirstLine (Some c.in-Ok-Some.line) (bytes_left before.lines file) (bytes_left c.next.new.self file)) =
-    subst (λ (o : Option (List ℕ)). WhereHeld (g.S.Shelf.contents c.args.from.now) before.lines.name (λ file. GivesFirstLine o (bytes_left before.lines file) (bytes_left c.next.new.self file))) c.in-Ok-Some.field-0-is c.in-Ok-Some.ensures.line in
+    let gives : IfFile (g.S.Shelf.contents c.args.from.now) before.lines.name (λ file. GivesFirstLine (Some c.in-Ok-Some.line) (bytes_left before.lines file) (bytes_left c.next.new.self file)) =
+    subst (λ (o : Option (List ℕ)). IfFile (g.S.Shelf.contents c.args.from.now) before.lines.name (λ file. GivesFirstLine o (bytes_left before.lines file) (bytes_left c.next.new.self file))) c.in-Ok-Some.field-0-is c.in-Ok-Some.ensures.line in
     subst (λ (s : PulledState). Draws g.S.Shelf.contents g.S.Shelf.read_faults g.S.Shelf.write_faults g.S.Shelf.IsSure None s c.args.from.now c.keep.new.self c.next.new.shelf) c.self.view_is
     (drew_line g.S.Shelf.contents g.S.Shelf.read_faults g.S.Shelf.write_faults g.S.Shelf.IsSure c.next.result before c.next.new.self c.args.from.now c.next.new.shelf c.next.ensures.kept c.next.ensures.counted.0 c.next.ensures.writes c.next.ensures.cause c.next.ensures.stays_sure c.next.ensures.sure_fault c.next.ensures.sure_counts c.next.ensures.same
     going c.in-Ok-Some.ensures.ok c.in-Ok-Some.line c.keep.result c.keep.new.self (none-of c.self.inside.held c.if-is_some.ensures) (none-of c.self.inside.tail c.if-is_some-2.ensures) c.keep.ensures gives)
@@ -53,8 +53,8 @@ pub returns-in-Ok-None-clause-lends : goal.returns-in-Ok-None-clause-lends
 returns-in-Ok-None-clause-lends g c =
     let before : PulledState = record { lines = c.self.inside.lines; held = held_bytes c.self.inside.held; tail = held_bytes c.self.inside.tail; taken = c.self.inside.taken } in
     let going = not-refused before.lines.refused c.next.result c.in-Ok-None.field-0 c.in-Ok-None.is c.next.ensures.again in
-    let gives : WhereHeld (g.S.Shelf.contents c.args.from.now) before.lines.name (λ file. GivesFirstLine None (bytes_left before.lines file) (bytes_left c.next.new.self file)) =
-    subst (λ (o : Option (List ℕ)). WhereHeld (g.S.Shelf.contents c.args.from.now) before.lines.name (λ file. GivesFirstLine o (bytes_left before.lines file) (bytes_left c.next.new.self file))) c.in-Ok-None.field-0-is c.in-Ok-None.ensures.line in
+    let gives : IfFile (g.S.Shelf.contents c.args.from.now) before.lines.name (λ file. GivesFirstLine None (bytes_left before.lines file) (bytes_left c.next.new.self file)) =
+    subst (λ (o : Option (List ℕ)). IfFile (g.S.Shelf.contents c.args.from.now) before.lines.name (λ file. GivesFirstLine o (bytes_left before.lines file) (bytes_left c.next.new.self file))) c.in-Ok-None.field-0-is c.in-Ok-None.ensures.line in
     subst (λ (s : PulledState). Draws g.S.Shelf.contents g.S.Shelf.read_faults g.S.Shelf.write_faults g.S.Shelf.IsSure None s c.args.from.now (with_lines before c.next.new.self) c.next.new.shelf) c.self.view_is
     (drew_none g.S.Shelf.contents g.S.Shelf.read_faults g.S.Shelf.write_faults g.S.Shelf.IsSure c.next.result before c.next.new.self c.args.from.now c.next.new.shelf c.next.ensures.kept c.next.ensures.counted.0 c.next.ensures.writes c.next.ensures.cause c.next.ensures.stays_sure c.next.ensures.sure_fault c.next.ensures.sure_counts c.next.ensures.same
     going c.in-Ok-None.ensures.ok (none-of c.self.inside.held c.if-is_some.ensures) (none-of c.self.inside.tail c.if-is_some-2.ensures) gives)

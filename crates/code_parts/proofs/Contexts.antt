@@ -24,7 +24,7 @@ use Rattle.code_parts.specs.declared.part.Part.{Part}
 use Rattle.code_parts.specs.declared.part.Part.TheVariants.{Loop, Rest}
 use Rattle.code_parts.specs.Regions.{IsOfRegion}
 use Rattle.code_parts.specs.Graph.{IsAlone, IsCode, IsGraph, IsPart, StandsAt, has_edge, is_jump_through}
-use Rattle.code_parts.specs.Flows.{AreCodeOf, HaveInstructions, IsReached, IsSetFor, Setting, SettingOf, alone, edge_number, flow_of, function_at, registers_of, setting_of, unlinked}
+use Rattle.code_parts.specs.Flows.{AreCodeOf, HaveInstructions, IsReached, IsSetFor, Context, ContextOf, alone, edge_number, flow_of, function_at, registers_of, context_of, unlinked}
 use Rattle.code_parts.specs.declared.callee.Callee.{Callee}
 use Rattle.code_parts.specs.Kept.{FlowOf, IsKept, flow_in}
 use Rattle.code_parts.proofs.CodeOf.{have_bytes, instructions-in}
@@ -62,7 +62,7 @@ module _ (s : FlowOf) (linked : Bool) (reached : IsReached linked s.graph) (fore
   f = s.forest
 
   graph_of : IsGraph (flow_in s)
-  graph_of = is-graph linked reached.code reached.entry g f (setting_of s.setting) reached.is forest
+  graph_of = is-graph linked reached.code reached.entry g f (context_of s.context) reached.is forest
 
   -- an instruction of the graph names registers
   writes_of : (n : ℕ) → n < length g.addrs → destination (get_or g.instrs n Ebreak) < 32
@@ -75,18 +75,18 @@ module _ (s : FlowOf) (linked : Bool) (reached : IsReached linked s.graph) (fore
   -- an edge leads to a node
   edge_of : (n : ℕ) (form : Form) → n < length g.addrs → has_edge (get_or g.instrs n Ebreak) form ≡ true → get_or (succs_of g.edges n) (edge_number form) 0 < length g.addrs
   edge_of n form lt has =
-      let at = edge-at linked reached.code reached.entry g f (setting_of s.setting) reached.is forest n form lt has in
+      let at = edge-at linked reached.code reached.entry g f (context_of s.context) reached.is forest n form lt has in
       (is_flow linked reached.code reached.entry g reached.is).within n (get_or (succs_of g.edges n) (edge_number form) 0) (node_at (succs_of g.edges n) (edge_number form) at.0)
 
   head_node : (l : ℕ) → l < length f.heads → head_of f l < length g.addrs
-  head_node l lt = ((walks linked reached.code reached.entry g f (setting_of s.setting) reached.is forest).head l lt).0
+  head_node l lt = ((walks linked reached.code reached.entry g f (context_of s.context) reached.is forest).head l lt).0
 
   exit_nodes : (l : ℕ) → l < length f.heads → All (λ x. x < length g.addrs) (exits_of f l)
-  exit_nodes l lt k d at = ((walks linked reached.code reached.entry g f (setting_of s.setting) reached.is forest).exit l (get_or (exits_of f l) k d) lt (k, at, default (exits_of f l) k d (get_or (exits_of f l) k d) at)).0
+  exit_nodes l lt k d at = ((walks linked reached.code reached.entry g f (context_of s.context) reached.is forest).exit l (get_or (exits_of f l) k d) lt (k, at, default (exits_of f l) k d (get_or (exits_of f l) k d) at)).0
 
 -- .. told by what a flow keeps
-module _ (g : GraphOf) (f : ForestOf) (t : SettingOf) (ret : Bool) (code : List Range) (kept : IsKept g f t ret code)
-    (s : FlowOf) (is : record { graph = g; forest = f; setting = t; code = code } ≡ s) where
+module _ (g : GraphOf) (f : ForestOf) (t : ContextOf) (ret : Bool) (code : List Range) (kept : IsKept g f t ret code)
+    (s : FlowOf) (is : record { graph = g; forest = f; context = t; code = code } ≡ s) where
   abbrev linked : Bool
   linked = kept.reached.0
 
@@ -96,8 +96,8 @@ module _ (g : GraphOf) (f : ForestOf) (t : SettingOf) (ret : Bool) (code : List 
   forest : IsForestOf s.graph s.forest
   forest = subst (λ (z : FlowOf). IsForestOf z.graph z.forest) is kept.forest
 
-  fits : IsSetFor s.graph (setting_of s.setting)
-  fits = subst (λ (z : FlowOf). IsSetFor z.graph (setting_of z.setting)) is kept.fits
+  fits : IsSetFor s.graph (context_of s.context)
+  fits = subst (λ (z : FlowOf). IsSetFor z.graph (context_of z.context)) is kept.fits
 
   pub graph_is : IsGraph (flow_in s)
   graph_is = graph_of s linked reached forest
@@ -106,7 +106,7 @@ module _ (g : GraphOf) (f : ForestOf) (t : SettingOf) (ret : Bool) (code : List 
   whole_code = subst (λ (z : FlowOf). HaveInstructions z.graph z.code) is kept.code_has
 
   pub code_stands : IsCode (flow_in s) s.code
-  code_stands = is-code linked reached.code reached.entry s.graph s.forest (setting_of s.setting) s.code reached.is forest reached.bytes (have_bytes linked s.graph reached s.code whole_code) fits
+  code_stands = is-code linked reached.code reached.entry s.graph s.forest (context_of s.context) s.code reached.is forest reached.bytes (have_bytes linked s.graph reached s.code whole_code) fits
 
   -- a call goes on to the next instruction
   pub call_edge : (n : ℕ) (c : Callee) → n < length s.graph.addrs → (flow_in s).callee n ≡ Some c → has_edge ((flow_in s).instr n) Next ≡ true
@@ -139,12 +139,12 @@ module _ (g : GraphOf) (f : ForestOf) (t : SettingOf) (ret : Bool) (code : List 
   registers_named = named_registers 1 t.regs (omega arith) kept.fits.rise
 
 -- the flow of these
-pub same_flow : (s : FlowOf) (g : GraphOf) (f : ForestOf) (t : Setting) → s.graph ≡ g → s.forest ≡ f → setting_of s.setting ≡ t → flow_in s ≡ flow_of g f t
+pub same_flow : (s : FlowOf) (g : GraphOf) (f : ForestOf) (t : Context) → s.graph ≡ g → s.forest ≡ f → context_of s.context ≡ t → flow_in s ≡ flow_of g f t
 same_flow s g f t a b c = λ i. flow_of (a i) (b i) (c i)
 
--- the setting of a function alone, as the code has it
+-- the context of a function alone, as the code has it
 pub alone_is : (g : GraphOf) (parts : List Part) (regs : List ℕ) (mem : Bool) (mems : ℕ) → regs ≡ registers_of g.instrs → mem ≡ list_any has_memory g.instrs → mems ≡ cond mem 1 0
-    → setting_of (record { base = 0; parts = parts; regs = regs; mems = mems; second = []; functions = [] }) ≡ alone g parts
+    → context_of (record { base = 0; parts = parts; regs = regs; mems = mems; second = []; functions = [] }) ≡ alone g parts
 alone_is g parts regs mem mems registers memory count = λ i. record {
   base = 0;
   parts = parts;
@@ -155,12 +155,12 @@ alone_is g parts regs mem mems registers memory count = λ i. record {
 }
 
 -- what is kept of a function alone
-pub kept_alone : (g : GraphOf) (f : ForestOf) (parts : List Part) (t : SettingOf) (ret : Bool) (code : List Range) → IsReached false g → IsForestOf g f → length parts < 2 ^ 32 → setting_of t ≡ alone g parts → ret ≡ list_any is_jump_through g.instrs → AreCodeOf g code → IsKept g f t ret code
+pub kept_alone : (g : GraphOf) (f : ForestOf) (parts : List Part) (t : ContextOf) (ret : Bool) (code : List Range) → IsReached false g → IsForestOf g f → length parts < 2 ^ 32 → context_of t ≡ alone g parts → ret ≡ list_any is_jump_through g.instrs → AreCodeOf g code → IsKept g f t ret code
 kept_alone g f parts t ret code reached forest few is returns whole = record {
   reached = (false, reached);
   forest = forest;
-  few = (let none : t.base ≡ 0 = ap (λ (z : Setting). z.base) is in let many : length t.parts ≡ length parts = ap (λ (z : Setting). length z.parts) is in omega (arith, none, many, few));
-  few_mems = (let two = at-most (list_any has_memory g.instrs) in let same : t.mems ≡ cond (list_any has_memory g.instrs) 1 0 = ap (λ (z : Setting). z.mems) is in omega (arith, same, two));
+  few = (let none : t.base ≡ 0 = ap (λ (z : Context). z.base) is in let many : length t.parts ≡ length parts = ap (λ (z : Context). length z.parts) is in omega (arith, none, many, few));
+  few_mems = (let two = at-most (list_any has_memory g.instrs) in let same : t.mems ≡ cond (list_any has_memory g.instrs) 1 0 = ap (λ (z : Context). z.mems) is in omega (arith, same, two));
   fits = subst (IsSetFor g) (sym is) (set-alone g parts);
   returns_is = returns;
   code_has = instructions-in g code whole;
@@ -171,7 +171,7 @@ kept_alone g f parts t ret code reached forest few is returns whole = record {
     at-most false = omega arith
 
 -- .. and its flow is alone
-pub flow_alone : (g : GraphOf) (f : ForestOf) (parts : List Part) (s : FlowOf) → IsReached false g → s.graph ≡ g → s.forest ≡ f → setting_of s.setting ≡ alone g parts → IsAlone (flow_in s)
+pub flow_alone : (g : GraphOf) (f : ForestOf) (parts : List Part) (s : FlowOf) → IsReached false g → s.graph ≡ g → s.forest ≡ f → context_of s.context ≡ alone g parts → IsAlone (flow_in s)
 flow_alone g f parts s reached a b c = subst IsAlone (sym (same_flow s g f (alone g parts) a b c)) (is-alone reached.code reached.entry g f parts reached.is)
 
 -- a function stands under its address

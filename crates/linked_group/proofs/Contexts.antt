@@ -20,7 +20,7 @@ use Rattle.code_parts.specs.declared.callee.Callee.{Callee}
 use Rattle.code_parts.specs.declared.part.Part.{Part}
 use Rattle.code_parts.specs.declared.part.Part.TheVariants.{Loop, Rest}
 use Rattle.code_parts.specs.Graph.{IsPart, IsSmall}
-use Rattle.code_parts.specs.Flows.{HaveCode, HaveInstructions, IsReached, IsSetFor, Setting, alone, flow_of, function_at, place_in, setting_of, unlinked}
+use Rattle.code_parts.specs.Flows.{HaveCode, HaveInstructions, IsReached, IsSetFor, Context, alone, flow_of, function_at, place_in, context_of, unlinked}
 use Rattle.code_parts.specs.Members.{AreBased, IsMember, flow_at}
 use Rattle.code_parts.specs.Order.{AreParts, StandsBefore}
 use Rattle.code_parts.proofs.CodeOf.{have_bytes}
@@ -29,28 +29,28 @@ use Rattle.code_parts.proofs.FlowSize.{is-small, parts-twice}
 use Rattle.code_parts.proofs.GraphCode.{in-code}
 use Rattle.code_parts.proofs.Lists.{contains-cases}
 use Rattle.code_parts.proofs.Registers.{filter-rise}
-use Rattle.code_parts.proofs.Settings.{entered-at}
+use Rattle.code_parts.proofs.Contexts.{entered-at}
 use Rattle.linked_group.proofs.Joining.{reached-by}
 use Rattle.linked_group.proofs.Lists.{any-of, filter-more, held, in-map, out-map}
 use Rattle.linked_group.proofs.Placing.{whole-last}
-use Rattle.linked_group.specs.Groups.{AreSomeFunctions, HasOrderedParts, IsLinkedGroup, called_as, functions_of, is_register_of, load_or_store, member_in, setting_in}
+use Rattle.linked_group.specs.Groups.{AreSomeFunctions, HasOrderedParts, IsLinkedGroup, called_as, functions_of, is_register_of, load_or_store, member_in, context_in}
 use Rattle.linked_group.specs.declared.group.LinkedFunction.{LinkedFunction}
 use Rattle.linked_group.specs.declared.group.LinkedGroup.{LinkedGroup}
 
--- ---- the order of parts doesn't depend on the setting
+-- ---- the order of parts doesn't depend on the context
 
-part-in : (g : GraphOf) (f : ForestOf) (s t : Setting) (p : Part) → IsPart (flow_of g f s) p → IsPart (flow_of g f t) p
+part-in : (g : GraphOf) (f : ForestOf) (s t : Context) (p : Part) → IsPart (flow_of g f s) p → IsPart (flow_of g f t) p
 part-in g f s t (Loop l) h = h
 part-in g f s t (Rest r n) h = h
 
-stands-in : (g : GraphOf) (f : ForestOf) (s t : Setting) (left : ℕ → ℕ) (depth : Option ℕ → ℕ) (p q : Part) → StandsBefore (flow_of g f s) left depth p q → StandsBefore (flow_of g f t) left depth p q
+stands-in : (g : GraphOf) (f : ForestOf) (s t : Context) (left : ℕ → ℕ) (depth : Option ℕ → ℕ) (p q : Part) → StandsBefore (flow_of g f s) left depth p q → StandsBefore (flow_of g f t) left depth p q
 stands-in g f s t left depth (Loop l) (Loop k) h = h
 stands-in g f s t left depth (Loop l) (Rest r n) h = h
 stands-in g f s t left depth (Rest r n) (Loop l) h = h
 stands-in g f s t left depth (Rest r n) (Rest q m) h = h
 
-pub in-setting : (g : GraphOf) (f : ForestOf) (s t : Setting) (left : ℕ → ℕ) (parts : List Part) → AreParts (flow_of g f s) left parts → AreParts (flow_of g f t) left parts
-in-setting g f s t left parts h = record {
+pub in-context : (g : GraphOf) (f : ForestOf) (s t : Context) (left : ℕ → ℕ) (parts : List Part) → AreParts (flow_of g f s) left parts → AreParts (flow_of g f t) left parts
+in-context g f s t left parts h = record {
   depth = h.depth;
   outside = h.outside;
   deeper = h.deeper;
@@ -111,8 +111,8 @@ module _ (code : Bytes) (e : ℕ) (bytes : AreBytes code) (s : LinkedGroup) (are
   pub last-of : (f : LinkedFunction) → Contains s.functions f → length f.parts ≡ place_in f.parts (Rest None f.function.now.graph.entry) + 1
   last-of f c = whole-last f (true, reached-of f c) (linked-of f c).forest (parts-of f c)
 
-  -- the setting fits
-  pub set-of : (f : LinkedFunction) → Contains s.functions f → IsSetFor f.function.now.graph (setting_of (setting_in s f))
+  -- the context fits
+  pub set-of : (f : LinkedFunction) → Contains s.functions f → IsSetFor f.function.now.graph (context_of (context_in s f))
   set-of f c = record {
     rise = subst (λ (rs : List ℕ). AreRegistersFrom 1 rs) (sym is.regs) (where-rise (is_register_of (functions_of s)));
     regs = λ r d. subst (λ (rs : List ℕ). Contains rs r) (sym is.regs)
@@ -140,7 +140,7 @@ module _ (code : Bytes) (e : ℕ) (bytes : AreBytes code) (s : LinkedGroup) (are
   have-of f c = have_bytes true f.function.now.graph (reached-of f c) s.code.ranges (instructions-of f c)
 
   pub order-of : (f : LinkedFunction) → Contains s.functions f → AreParts (flow_at (member_in s f)) (number_of f.function.now.forest) f.parts
-  order-of f c = in-setting f.function.now.graph f.function.now.forest (alone f.function.now.graph f.parts) (setting_of (setting_in s f)) (number_of f.function.now.forest) f.parts (parts-of f c)
+  order-of f c = in-context f.function.now.graph f.function.now.forest (alone f.function.now.graph f.parts) (context_of (context_in s f)) (number_of f.function.now.forest) f.parts (parts-of f c)
 
   pub member-of : (f : LinkedFunction) → Contains s.functions f → IsMember true code s.code.ranges (member_in s f)
   member-of f c = record { graph = (linked-of f c).graph; forest = (linked-of f c).forest; order = order-of f c; fits = set-of f c; bytes = have-of f c }
@@ -163,7 +163,7 @@ module _ (code : Bytes) (e : ℕ) (bytes : AreBytes code) (s : LinkedGroup) (are
 
   pub small-of : (f : LinkedFunction) → Contains s.functions f → IsSmall (flow_at (member_in s f))
   small-of f c =
-      is-small true code f.function.now.entry f.function.now.graph f.function.now.forest (setting_of (setting_in s f)) (linked-of f c).graph (linked-of f c).forest (order-of f c) (set-of f c)
+      is-small true code f.function.now.entry f.function.now.graph f.function.now.forest (context_of (context_in s f)) (linked-of f c).graph (linked-of f c).forest (order-of f c) (set-of f c)
       (two (load_or_store (functions_of s)) is.mems) (let low = base-low f c in omega (arith, low))
       (λ n d own. called (called_by (get_or f.function.now.graph.addrs n 0) (get_or f.function.now.graph.instrs n Ebreak)) d own)
     where
