@@ -31,7 +31,8 @@ use Rattle.decompiler.specs.Listing.{AreDefsOf, HasDefs, IsCodeIn, IsInstruction
 use Rattle.decompiler.proofs.CodeListed.{access_back, access_there, byte_back, byte_there, memory_by, registers_by, used_back, used_there}
 use Rattle.decompiler.proofs.Definitions.{parts-once}
 use Rattle.decompiler.proofs.PartsListed.{defs_are}
-use Rattle.call_link.specs.Listing.{AreEntries, HaveDefs, InFirstMemory, IsLinkedCode, ListsLinked}
+use Rattle.call_link.specs.Listing.{AreEntries, HaveDefs, IsLinkedCode, ListsLinked}
+use Rattle.claims.specs.Turns.{InFirstMemory}
 
 any-in : {A : Type 0} (p : A → Bool) (xs : List A) → list_any p xs ≡ true → (x : A) × Contains xs x × (p x ≡ true)
 any-in p [] e = absurd (cc)

@@ -12,7 +12,7 @@ use Rattle.group_text.specs.Version.{version_3}
 use Rattle.proof_text.specs.Line.{LineTree, line_tree}
 use Rattle.further_rules.specs.Rules.{IsSteered}
 use Rattle.checker.specs.Accepts.{IsAcceptedBy}
-use Rattle.exactness.specs.Turns.{RunsBack}
+use Rattle.claims.specs.Turns.{InFirstMemory, RunsBack}
 use Rattle.exactness.proofs.Counts.{Returning, counts-of, exact-of}
 use Rattle.exactness.proofs.Members.{members-gain}
 use Rattle.call_graph.specs.Causes.{IsCallGraphFault, IsCause}
@@ -41,7 +41,7 @@ use Rattle.decompiler.specs.inner.Functions.{outside_of}
 use Rattle.decompiler.proofs.CodeListed.{ranges_small}
 use Rattle.decompiler.proofs.Fragment.{stands_once}
 use Rattle.call_link.specs.Faults.{CanBeLinked, IsLinkFirst, Missing, Doubled, InFunctions}
-use Rattle.call_link.specs.Listing.{IsLinkedItemFor, ListsLinked, InFirstMemory}
+use Rattle.call_link.specs.Listing.{IsLinkedItemFor, ListsLinked}
 use Rattle.call_link.specs.inner.Functions.{IsNoLinkedItem}
 use Rattle.call_link.proofs.InFunctions.{defs-made, entries-listed, lists-linked, sizes-listed}
 use Rattle.group_text.specs.declared.version.Version.TheVariants.{Three}

@@ -11,7 +11,7 @@ use Rattle.further_rules.specs.Rules.{IsSteered}
 use Rattle.checker.specs.Accepts.{IsAcceptedBy}
 use Rattle.claims.specs.Headline.{entry_at}
 use Rattle.claims.specs.LinkExact.{LinkExact}
-use Rattle.exactness.specs.Turns.{CountsSteps, RunsBack}
+use Rattle.claims.specs.Turns.{CountsSteps, InFirstMemory, RunsBack}
 use Rattle.flow_graph.specs.Flow.{Next}
 use Rattle.flow_graph.specs.Reach.{IsReach}
 use Rattle.flow_graph.specs.Walks.{Reaches}
@@ -49,10 +49,6 @@ pub record ListsLinked (code : Bytes) (e : ℕ) (ms : List Member) (name : List 
   pub registers : (r : ℕ) → Contains g.regs r ↔ ((1 ≤ r) × (r ≤ 31) × IsUsedIn true code (IsLinkedCode code e) r)
   pub memory : ((g.mems ≡ 1) × UsesMemoryIn true code (IsLinkedCode code e)) ⊎ ((g.mems ≡ 0) × (UsesMemoryIn true code (IsLinkedCode code e) → ⊥))
   pub defs : HaveDefs ms g.defs
-
--- each access is in the first memory
-abbrev pub InFirstMemory : ℕ → ℕ → Type 0
-InFirstMemory a q = q ≡ 0
 
 -- The item of a name, which has no fault: what it lists is of the functions that calls lead to from the name's address, and it tells the sum
 -- of their sizes; each definition is that of its part; it is accepted for the file as a proof of version 3, nothing is lost of the functions,

@@ -13,9 +13,9 @@ use Rattle.smt_export.specs.Telling.{TellsEval, TellsOutcome}
 use Rattle.claims.specs.Headline.{Region, Starts, IsRight, held_in}
 use Rattle.elf_image.specs.Image.{code_of_file}
 use Rattle.claims.specs.Exact.{FirstReturns, Gives}
-use Rattle.claims.specs.LinkExact.{FirstReturnsIn, ReturnsBack}
-use Rattle.call_link.specs.Listing.{InFirstMemory}
-use Rattle.stack_split.specs.SplitExact.{UsesSplit}
+use Rattle.claims.specs.LinkExact.{FirstReturnsIn}
+use Rattle.claims.specs.Turns.{InFirstMemory, RunsBack}
+use Rattle.stack_offsets.specs.SplitExact.{UsesSplit}
 use Rattle.carried_claims.specs.Scripts.{IsExactScript, IsRightScript, TellsClaims, told_by}
 use Rattle.carried_claims.proofs.Ends.{ends}
 
@@ -66,6 +66,6 @@ pub tells-claims : (g : GroupTree) (funs : List FunTree) → TellsEval g (listed
 tells-claims g funs tells wf free = record {
   right = λ elf right. right-script elf g funs tells wf free right;
   exact = λ elf exact. exact-script elf g funs tells FirstReturns exact;
-  linked = λ elf exact. exact-script elf g funs tells (λ regions s k t. ReturnsBack InFirstMemory regions t [] k s) exact;
+  linked = λ elf exact. exact-script elf g funs tells (RunsBack InFirstMemory) exact;
   split = λ elf e exact. exact-script elf g funs tells (FirstReturnsIn (UsesSplit (code_of_file elf) e)) exact;
 }

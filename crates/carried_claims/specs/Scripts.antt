@@ -13,9 +13,9 @@ use Rattle.smt_export.specs.Telling.{AreArgumentValues, TellsOutcome}
 use Rattle.elf_image.specs.Image.{code_of_file}
 use Rattle.claims.specs.Headline.{Region, Starts, Ends, IsRight, held_in}
 use Rattle.claims.specs.Exact.{Exact, FirstReturns}
-use Rattle.claims.specs.LinkExact.{FirstReturnsIn, LinkExact, ReturnsBack}
-use Rattle.call_link.specs.Listing.{InFirstMemory}
-use Rattle.stack_split.specs.SplitExact.{SplitExact, UsesSplit}
+use Rattle.claims.specs.LinkExact.{FirstReturnsIn, LinkExact}
+use Rattle.claims.specs.Turns.{InFirstMemory, RunsBack}
+use Rattle.stack_offsets.specs.SplitExact.{SplitExact, UsesSplit}
 
 -- the values that the functions of the group's function have of these
 abbrev pub told_by : List FunTree → GroupTree → List Value → Told → Value
@@ -49,5 +49,5 @@ IsExactScript Runs file g funs =
 pub record TellsClaims (g : GroupTree) (funs : List FunTree) : Type 0 where
   pub right : (elf : List ℕ) → IsRight elf g → IsRightScript elf g funs
   pub exact : (elf : List ℕ) → Exact elf g → IsExactScript FirstReturns elf g funs
-  pub linked : (elf : List ℕ) → LinkExact InFirstMemory elf g → IsExactScript (λ regions s k t. ReturnsBack InFirstMemory regions t [] k s) elf g funs
+  pub linked : (elf : List ℕ) → LinkExact InFirstMemory elf g → IsExactScript (RunsBack InFirstMemory) elf g funs
   pub split : (elf : List ℕ) (e : ℕ) → SplitExact elf e g → IsExactScript (FirstReturnsIn (UsesSplit (code_of_file elf) e)) elf g funs

@@ -14,9 +14,9 @@ ghost use Rattle.smt_export.specs.Telling.{TellsEval};
 ghost use Rattle.claims.specs.Headline.{IsRight};
 ghost use Rattle.claims.specs.Exact.{Exact, FirstReturns};
 ghost use Rattle.elf_image.specs.Image.{code_of_file};
-ghost use Rattle.claims.specs.LinkExact.{FirstReturnsIn, LinkExact, ReturnsBack};
-ghost use Rattle.call_link.specs.Listing.{InFirstMemory};
-ghost use Rattle.stack_split.specs.SplitExact.{SplitExact, UsesSplit};
+ghost use Rattle.claims.specs.LinkExact.{FirstReturnsIn, LinkExact};
+ghost use Rattle.claims.specs.Turns.{InFirstMemory, RunsBack};
+ghost use Rattle.stack_offsets.specs.SplitExact.{SplitExact, UsesSplit};
 ghost use Rattle.carried_claims.specs.Scripts.{TellsClaims};
 ghost use Rattle.carried_claims.specs.Within.{IsExactIn, IsRightIn};
 
@@ -38,7 +38,7 @@ pub fn law_of_rewritten_functions()
         → AreRewritingSteps rs g.defs es
         → EvaluateAlike g es
         → LinkExact InFirstMemory file g
-        → IsExactIn IsState (λ regions s k t. ReturnsBack InFirstMemory regions t [] k s) file
+        → IsExactIn IsState (RunsBack InFirstMemory) file
         (with_defs g es) }
     ensures split { (file : List ℕ) (g : GroupTree) (rs : List Rw) (es : List DefTree) (e : ℕ)
         → AreRewritingSteps rs g.defs es

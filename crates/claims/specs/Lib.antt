@@ -1,3 +1,4 @@
 pub mod Headline
 pub mod Exact
 pub mod LinkExact
+pub mod Turns

@@ -17,7 +17,7 @@ use Rattle.proof_text.specs.Proofs.{IsProofIn}
 use Rattle.checker.specs.Accepts.{IsAccepted}
 use Rattle.claims.specs.Headline.{entry_at}
 use Rattle.claims.specs.Exact.{Exact, FirstReturns}
-use Rattle.exactness.specs.Turns.{CountsSteps}
+use Rattle.claims.specs.Turns.{CountsSteps}
 use Rattle.flow_graph.specs.Flow.{Next, called_by, length_in, look, is_return}
 use Rattle.flow_graph.specs.Walks.{Reaches}
 use Rattle.flow_graph.specs.Graph.{GraphOf, HasEdge, IsGraphOf, IsRising}

@@ -6,7 +6,7 @@ use Rattle.tailrec_lang.specs.Eval.{Arguments, Done, eval}
 use Rattle.tailrec_lang.proofs.Turns.{eval-more}
 use Rattle.claims.specs.Headline.{Region, Starts, held_in}
 use Rattle.claims.specs.Exact.{Gives}
-use Rattle.exactness.specs.Turns.{CountsSteps}
+use Rattle.claims.specs.Turns.{CountsSteps}
 
 same-left : (exit pc left exit' pc' left' : ℕ) (x x' : Arguments) → Done exit pc x left ≡ Done exit' pc' x' left' → left ≡ left'
 same-left exit pc left exit' pc' left' x x' e = cc

@@ -35,7 +35,7 @@ use Rattle.code_parts.specs.Graph.{IsAlone, has_edge, IsEdge, IsPart, IsPlaced, 
 use Rattle.claims.specs.Headline.{Starts}
 use Rattle.claims.specs.Exact.{FirstReturns, Exact}
 use Rattle.exactness.specs.Parts.{HasParts, LeavesAs, Meets}
-use Rattle.exactness.specs.Turns.{CountsSteps}
+use Rattle.claims.specs.Turns.{CountsSteps}
 use Rattle.exactness.proofs.Counts.{counts-of, exact-of}
 use Rattle.exactness.proofs.Runs.{gains, law-of-part}
 

@@ -28,7 +28,7 @@ use Rattle.instr_axioms.proofs.Effects.{cut}
 use Rattle.code_parts.proofs.Lists.{length-map}
 use Rattle.exactness.proofs.Returns.{Steps, Comes, comes, comes-plain, IsKept, kept-here}
 use Rattle.exactness.proofs.StateVariables.{Stands}
-use Rattle.exactness.specs.Turns.{RunsBack}
+use Rattle.claims.specs.Turns.{RunsBack}
 use Rattle.exactness.proofs.Counts.{Gains, Returning}
 use Rattle.exactness.proofs.PartLaw.{with_address, IsDone, LeavesIn, Law, LawsAt, LawsBelow, part-law, whole-law}
 use Rattle.exactness.proofs.Whole.{same_instr, step-done}

@@ -28,7 +28,7 @@ use Rattle.code_parts.proofs.FlowGraph.{is-graph}
 use Rattle.code_parts.proofs.FlowMade.{uncalled-of}
 use Rattle.code_parts.proofs.FlowOrder.{there-at}
 use Rattle.exactness.specs.Functions.{UsedBy}
-use Rattle.exactness.specs.Turns.{RunsBack}
+use Rattle.claims.specs.Turns.{RunsBack}
 use Rattle.exactness.proofs.Counts.{Returning}
 use Rattle.exactness.proofs.Family.{linked-gains, own-gains}
 

@@ -20,7 +20,7 @@ ghost use Rattle.claims.specs.Exact.{Exact, FirstReturns};
 ghost use Rattle.claims.specs.LinkExact.{ExactIn, FirstReturnsIn, LinkExact};
 ghost use Rattle.exactness.specs.Functions.{UsedBy};
 ghost use Rattle.exactness.specs.Parts.{HasParts, LawOfPart};
-ghost use Rattle.exactness.specs.Turns.{CountsSteps, RunsBack};
+ghost use Rattle.claims.specs.Turns.{CountsSteps, RunsBack};
 
 /// Of a function alone: a run from the entry of a part that returns is an evaluation of its
 /// definition, up to where the run leaves the part. Each turn is at most 32 steps.

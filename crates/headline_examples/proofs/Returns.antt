@@ -11,7 +11,7 @@ use Rattle.rv_machine.specs.Touches.{IsTouched, touched}
 use Rattle.tailrec_lang.specs.Eval.{Arguments, Done, eval}
 use Rattle.claims.specs.Headline.{IsRight, Region, held_in, is_within}
 use Rattle.claims.specs.Exact.{Exact, FirstReturns, Gives}
-use Rattle.exactness.specs.Turns.{CountsSteps}
+use Rattle.claims.specs.Turns.{CountsSteps}
 use Rattle.headline_examples.specs.Sum.{needing, sum, sum_file, sum_results, sum_start}
 use Rattle.headline_examples.proofs.Paths.{IsPath, first-along}
 use Rattle.headline_examples.proofs.SumLemmas.{added, first-step, returned, second-step, starts, sum-ended, sum-starts}

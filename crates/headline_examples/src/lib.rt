@@ -11,7 +11,7 @@ ghost use Rattle.tailrec_lang.specs.Tree.{listed_def};
 ghost use Rattle.tailrec_lang.specs.Eval.{Done, eval};
 ghost use Rattle.claims.specs.Headline.{Ends, IsRight, Starts, held_in};
 ghost use Rattle.claims.specs.Exact.{Exact, FirstReturns, Gives};
-ghost use Rattle.exactness.specs.Turns.{CountsSteps};
+ghost use Rattle.claims.specs.Turns.{CountsSteps};
 ghost use Rattle.headline_examples.specs.Sum.{narrow, needing, sum, sum_file, sum_results, sum_start, wrong};
 ghost use Rattle.headline_examples.specs.Store.{at_place, keeps, quiet, store_file, store_start, stores};
 

@@ -10,9 +10,9 @@ use Rattle.def_laws.specs.Evaluation.{EvaluateAlike}
 use Rattle.def_laws.specs.Rewriting.{AreRewritingSteps, with_defs}
 use Rattle.claims.specs.Headline.{IsRight}
 use Rattle.claims.specs.Exact.{Exact, FirstReturns}
-use Rattle.claims.specs.LinkExact.{FirstReturnsIn, LinkExact, ReturnsBack}
-use Rattle.call_link.specs.Listing.{InFirstMemory}
-use Rattle.stack_split.specs.SplitExact.{SplitExact, UsesSplit}
+use Rattle.claims.specs.LinkExact.{FirstReturnsIn, LinkExact}
+use Rattle.claims.specs.Turns.{InFirstMemory, RunsBack}
+use Rattle.stack_offsets.specs.SplitExact.{SplitExact, UsesSplit}
 use Rattle.carried_claims.specs.Within.{IsExactIn, IsRightIn}
 use Rattle.mcdec_answers.specs.declared.answer.Answer.{Answer}
 use Rattle.mcdec_answers.specs.declared.answer.Answer.TheVariants as answer
@@ -30,7 +30,7 @@ pub record CarriesClaims : Type 0 where
   pub right : (elf : List ℕ) (g : GroupTree) (rs : List Rw) (es : List DefTree) → AreRewritingSteps rs g.defs es → EvaluateAlike g es → IsRight elf g → IsRightIn IsState elf (with_defs g es)
   pub exact : (elf : List ℕ) (g : GroupTree) (rs : List Rw) (es : List DefTree) → AreRewritingSteps rs g.defs es → EvaluateAlike g es → Exact elf g → IsExactIn IsState FirstReturns elf (with_defs g es)
   pub linked : (elf : List ℕ) (g : GroupTree) (rs : List Rw) (es : List DefTree) → AreRewritingSteps rs g.defs es → EvaluateAlike g es → LinkExact InFirstMemory elf g
-      → IsExactIn IsState (λ regions s k t. ReturnsBack InFirstMemory regions t [] k s) elf (with_defs g es)
+      → IsExactIn IsState (RunsBack InFirstMemory) elf (with_defs g es)
   pub split : (elf : List ℕ) (g : GroupTree) (rs : List Rw) (es : List DefTree) (e : ℕ) → AreRewritingSteps rs g.defs es → EvaluateAlike g es → SplitExact elf e g
       → IsExactIn IsState (FirstReturnsIn (UsesSplit (code_of_file elf) e)) elf (with_defs g es)
 

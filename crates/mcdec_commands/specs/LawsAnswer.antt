@@ -11,9 +11,9 @@ use Rattle.elf_image.specs.Image.{code_of_file}
 use Rattle.rv_machine.specs.State.{IsState}
 use Rattle.claims.specs.Headline.{IsRight}
 use Rattle.claims.specs.Exact.{Exact, FirstReturns}
-use Rattle.claims.specs.LinkExact.{FirstReturnsIn, LinkExact, ReturnsBack}
-use Rattle.call_link.specs.Listing.{InFirstMemory}
-use Rattle.stack_split.specs.SplitExact.{SplitExact, UsesSplit}
+use Rattle.claims.specs.LinkExact.{FirstReturnsIn, LinkExact}
+use Rattle.claims.specs.Turns.{InFirstMemory, RunsBack}
+use Rattle.stack_offsets.specs.SplitExact.{SplitExact, UsesSplit}
 use Rattle.carried_claims.specs.Within.{IsExactIn, IsRightIn}
 use Rattle.group_text.specs.Spelling.{group_tokens}
 use Rattle.text_versions.specs.Versions.{IsTextListing}
@@ -79,6 +79,6 @@ pub record CarriesOver (files : Contents) (proof cert : List ℕ) : Type 0 where
   pub right : (elf : List ℕ) → IsRight elf made.old → IsRightIn IsState elf (with_defs made.old made.result)
   pub exact : (elf : List ℕ) → Exact elf made.old → IsExactIn IsState FirstReturns elf (with_defs made.old made.result)
   pub linked : (elf : List ℕ) → LinkExact InFirstMemory elf made.old
-      → IsExactIn IsState (λ regions s k t. ReturnsBack InFirstMemory regions t [] k s) elf (with_defs made.old made.result)
+      → IsExactIn IsState (RunsBack InFirstMemory) elf (with_defs made.old made.result)
   pub split : (elf : List ℕ) (e : ℕ) → SplitExact elf e made.old
       → IsExactIn IsState (FirstReturnsIn (UsesSplit (code_of_file elf) e)) elf (with_defs made.old made.result)

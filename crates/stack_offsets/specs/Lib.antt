@@ -1,3 +1,4 @@
 pub mod Offsets
+pub mod SplitExact
 pub mod Runs
 pub mod inner

@@ -53,7 +53,7 @@ use Rattle.decompiler.proofs.Definitions.{defs_alone}
 use Rattle.decompiler.proofs.Fragment.{in_fragment}
 use Rattle.decompiler.proofs.PartsListed.{defs_are}
 use Rattle.stack_split.specs.Listing.{AreTwo, IsSplitItemFor}
-use Rattle.stack_split.specs.SplitExact.{UsesSplit}
+use Rattle.stack_offsets.specs.SplitExact.{UsesSplit}
 use Rattle.stack_split.specs.inner.Accesses.{AreStackAccesses}
 
 -- ---- which memory an access has

@@ -15,8 +15,8 @@ use Rattle.decompiler.specs.Faults.{IsFirst, IsInFragment}
 use Rattle.decompiler.specs.Listing.{AreDefsAlone, IsFirstWith, ListsWith, proof_of}
 use Rattle.decompiler.specs.Names.{StandsFor}
 use Rattle.claims.specs.LinkExact.{FirstReturnsIn}
-use Rattle.exactness.specs.Turns.{CountsSteps}
-use Rattle.stack_split.specs.SplitExact.{SplitExact, UsesSplit}
+use Rattle.claims.specs.Turns.{CountsSteps}
+use Rattle.stack_offsets.specs.SplitExact.{SplitExact, UsesSplit}
 
 -- two memories, whether or not the function loads or stores
 abbrev pub AreTwo : ℕ → Type 0

@@ -1,9 +1,9 @@
 use Rattle.std.proofs.Common.{[]}
 use Rattle.elf_image.specs.Image.{code_of_file}
 use Rattle.claims.specs.Exact.{FirstReturns}
-use Rattle.claims.specs.LinkExact.{FirstReturnsIn, ReturnsBack}
-use Rattle.call_link.specs.Listing.{InFirstMemory}
-use Rattle.stack_split.specs.SplitExact.{UsesSplit}
+use Rattle.claims.specs.LinkExact.{FirstReturnsIn}
+use Rattle.claims.specs.Turns.{InFirstMemory, RunsBack}
+use Rattle.stack_offsets.specs.SplitExact.{UsesSplit}
 use Rattle.carried_claims.proofs.Carried.{exact-in, right-in}
 use Rattle.carried_claims.proofs.laws.law_of_rewritten_functions.Goals as goal
 
@@ -15,7 +15,7 @@ returns-clause-exact c file g rs es are alike exact = exact-in file g rs es are 
 
 pub returns-clause-linked : goal.returns-clause-linked
 returns-clause-linked c file g rs es are alike exact =
-    exact-in file g rs es are alike (λ regions s k t. ReturnsBack InFirstMemory regions t [] k s) exact
+    exact-in file g rs es are alike (RunsBack InFirstMemory) exact
 
 pub returns-clause-split : goal.returns-clause-split
 returns-clause-split c file g rs es e are alike exact =

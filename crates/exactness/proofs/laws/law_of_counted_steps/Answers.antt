@@ -3,7 +3,7 @@ use Rattle.claims.specs.Exact.{FirstReturns}
 use Rattle.claims.specs.LinkExact.{FirstReturnsIn}
 use Rattle.code_parts.specs.Flows.{alone, flow_of, group_of}
 use Rattle.exactness.specs.Functions.{UsedBy}
-use Rattle.exactness.specs.Turns.{RunsBack}
+use Rattle.claims.specs.Turns.{RunsBack}
 use Rattle.exactness.proofs.Counts.{counts-of}
 use Rattle.exactness.proofs.GroupOfParts.{flow-gains}
 use Rattle.exactness.proofs.Members.{gain-by-itself, gain-linked}

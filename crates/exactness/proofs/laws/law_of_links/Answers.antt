@@ -1,7 +1,7 @@
 use Rattle.std.proofs.Common.{◌∷◌, []}
 use Rattle.claims.specs.LinkExact.{FirstReturnsIn}
 use Rattle.exactness.specs.Functions.{UsedBy}
-use Rattle.exactness.specs.Turns.{RunsBack}
+use Rattle.claims.specs.Turns.{RunsBack}
 use Rattle.exactness.proofs.Counts.{exact-of}
 use Rattle.exactness.proofs.Members.{gain-by-itself, gain-linked}
 use Rattle.exactness.proofs.laws.law_of_links.Goals as goal

@@ -6,6 +6,10 @@ use Rattle.tailrec_lang.specs.Eval.{Arguments, Done, eval}
 use Rattle.claims.specs.Headline.{Region, Starts, held_in}
 use Rattle.claims.specs.LinkExact.{ReturnsBack}
 
+-- each access is in the first memory
+abbrev pub InFirstMemory : ℕ → ℕ → Type 0
+InFirstMemory a q = q ≡ 0
+
 -- the machine comes from s in k steps to t, where it returns from the function, and has come back from all that this calls
 abbrev pub RunsBack : (ℕ → ℕ → Type 0) → List Region → State → ℕ → State → Type 0
 RunsBack Uses regions s k t = ReturnsBack Uses regions t [] k s
