@@ -14,8 +14,8 @@ ghost use Rattle.rv_decode.specs.Registers.{destination};
 
 use crate::callee::Callee;
 use crate::code::code_of;
-use crate::part::Part;
 use crate::context::Context;
+use crate::part::Part;
 use crate::uses::{registers, returns, uses_memory};
 use flow_graph::{Edges, Graph, called_by};
 use instr_axioms::Form;
