@@ -7,7 +7,7 @@ use crate::code::code_of_all;
 use crate::places::places_of;
 use crate::uses::{memories, registers_of_all};
 use call_graph::Function;
-use code_parts::{Callee, Part, Context};
+use code_parts::{Callee, Context, Part};
 use rv_words::{List, NoMemory};
 use std::alloc::Global;
 use word_terms::Code;
