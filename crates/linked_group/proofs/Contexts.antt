@@ -80,7 +80,7 @@ based-low s base (x ∷ fs) based f c =
     (λ same. subst (λ (z : LinkedFunction). z.base + length z.parts ≤ base + parts_of_all (x ∷ fs)) same (let b = based.0 in let sum = sum_by-cons (λ (f : LinkedFunction). length f.parts) x fs in omega (arith, b, sum)))
     (λ d. let low = based-low s (base + length x.parts) fs based.1 f d in let sum = sum_by-cons (λ (f : LinkedFunction). length f.parts) x fs in omega (arith, low, sum))
 
-sum-low : (fs : List LinkedFunction) → ((f : LinkedFunction) → Contains fs f → length f.parts ≤ 2 * length f.function.now.graph.addrs) → parts_of_all fs ≤ 2 * sum_by size_of (map (λ f. f.function.now) fs)
+pub sum-low : (fs : List LinkedFunction) → ((f : LinkedFunction) → Contains fs f → length f.parts ≤ 2 * length f.function.now.graph.addrs) → parts_of_all fs ≤ 2 * sum_by size_of (map (λ f. f.function.now) fs)
 sum-low [] each = omega arith
 sum-low (x ∷ fs) each =
     let one = each x (0, omega arith, refl) in

@@ -3,4 +3,5 @@ pub mod Joining
 pub mod Lists
 pub mod Placing
 pub mod Contexts
+pub mod Room
 pub mod Together

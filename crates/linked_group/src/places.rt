@@ -1,6 +1,6 @@
 //! Where the definitions of each function stand, and how it is called.
 
-ghost use Rattle.std.specs.Prelude.{◌≡◌, ◌+◌, ◌<◌, IfOk, length};
+ghost use Rattle.std.specs.Prelude.{◌≡◌, ◌+◌, ◌<◌, ◌^◌, IfOk, length};
 ghost use Rattle.linked_group.specs.Groups.{AreSomeFunctions, HasOrderedParts, called_as};
 ghost use Rattle.linked_group.specs.inner.Placing.{ArePlaced};
 ghost use Rattle.loop_forest.specs.Forest.{IsForestOf};
@@ -40,18 +40,12 @@ fn placed<'a>(
     })
 }
 
-/// How many definitions stand before those behind a function's. That there would be too many to be
-/// numbered is answered as out of memory.
-fn behind(function: &LinkedFunction<'_>) -> Result<u32, NoMemory>
-    ensures { IfOk result (λ n. n ≡ function.now.base + length function.now.parts) }
+/// How many definitions stand before those behind a function's.
+fn behind(function: &LinkedFunction<'_>) -> u32
+    requires { function.now.base + length function.now.parts < 2 ^ 32 }
+    ensures { result ≡ function.now.base + length function.now.parts }
 {
-    let Ok(count) = u32::try_from(function.parts.len()) else {
-        return Err(NoMemory);
-    };
-    match function.base.checked_add(count) {
-        Some(next) => Ok(next),
-        None => Err(NoMemory),
-    }
+    function.base + function.parts.len() as u32
 }
 
 /// How a function is called: by its last definition.
@@ -79,7 +73,7 @@ pub fn places_of<'a>(alloc: Global, functions: &'a [Function]) -> Result<Places<
     let mut base = 0;
     for function in functions {
         let one = placed(alloc, function, base)?;
-        let next = behind(&one)?;
+        let next = behind(&one);
         callees.push(callee_of(&one, next))?;
         placed_functions.push(one)?;
         base = next;
