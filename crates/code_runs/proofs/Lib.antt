@@ -4,3 +4,7 @@ pub mod Turns
 pub mod Through
 pub mod FileLemmas
 pub mod WordLemmas
+pub mod Edges
+pub mod Leads
+pub mod Loops
+pub mod Flows

@@ -1,15 +1,21 @@
-//! Laws of runs through drawn code. These functions do nothing: their contracts are the laws. Each
-//! speaks of the definitions alone.
+//! Laws of drawn code: of runs through it, and of its flow. These functions do nothing: their
+//! contracts are the laws. Each speaks of the definitions alone.
 
-ghost use Rattle.std.specs.Prelude.{◌≡◌, ℕ, ◌+◌, ◌*◌, ◌^◌, ◌%◌, ◌<◌, ◌≤◌, List, [], ◌∷◌, length};
+ghost use Rattle.std.specs.Prelude.{◌≡◌, ℕ, ◌+◌, ◌*◌, ◌^◌, ◌%◌, ◌<◌, ◌≤◌, List, [], ◌∷◌, length, false};
+ghost use Rattle.rv_words.specs.Bytes.{Bytes};
 ghost use Rattle.rv_machine.specs.State.{State};
-ghost use Rattle.code_gen.specs.Pieces.{Pieces};
-ghost use Rattle.code_gen.specs.Program.{code};
-ghost use Rattle.code_gen.specs.Structure.{AreShaped, EachAt, IsWordAt};
 ghost use Rattle.elf_image.specs.Fault.{IsReadable};
 ghost use Rattle.elf_image.specs.Image.{code_of_file, image_of, memory_of_file};
+ghost use Rattle.flow_graph.specs.Flow.{Next};
+ghost use Rattle.flow_graph.specs.Reach.{IsFault};
+ghost use Rattle.flow_graph.specs.Graph.{GraphOf, IsGraphOf};
+ghost use Rattle.flow_graph.specs.declared.outside.Outside.{Outside};
+ghost use Rattle.loop_forest.specs.Cycles.{TwoEntries};
+ghost use Rattle.loop_forest.specs.Forest.{IsForestFault};
+ghost use Rattle.code_gen.specs.Pieces.{Pieces};
+ghost use Rattle.code_gen.specs.Program.{code, instructions, program_of};
+ghost use Rattle.code_gen.specs.Structure.{AreShaped, EachAt, IsWordAt};
 ghost use Rattle.code_gen.specs.ElfFile.{elf_of, start};
-ghost use Rattle.code_gen.specs.Program.{instructions, program_of};
 ghost use Rattle.code_runs.specs.Files.{piece_of_words};
 ghost use Rattle.code_runs.specs.Runs.{PassesThrough, Returns, StartsProgram};
 
@@ -53,4 +59,27 @@ pub fn law_of_program_files()
         → size ≤ 600
         → EachAt (IsWordAt (memory_of_file (elf_of (program_of number size))) start) 0
         (instructions number size) }
+{}
+
+/// Code in which a program stands has a graph from the program's first instruction on, and a
+/// forest: no instruction that is reached is refused, no cycle has two entries, told by the code or
+/// by its graph, and no loop has many exits.
+pub fn law_of_program_flow()
+    ensures no_fault { (number size : ℕ) (bytes : Bytes) (why : Outside)
+        → size ≤ 600
+        → EachAt (IsWordAt bytes start) 0 (instructions number size)
+        → IsFault false bytes start why
+        → ⊥ }
+    ensures no_forest_fault { (number size : ℕ) (bytes : Bytes) (g : GraphOf) (why : Outside)
+        → size ≤ 600
+        → EachAt (IsWordAt bytes start) 0 (instructions number size)
+        → IsGraphOf false bytes start g
+        → IsForestFault g why
+        → ⊥ }
+    ensures no_two_entries { (number size : ℕ) (bytes : Bytes) (g : GraphOf)
+        → size ≤ 600
+        → EachAt (IsWordAt bytes start) 0 (instructions number size)
+        → IsGraphOf false bytes start g
+        → TwoEntries (Next false bytes) start
+        → ⊥ }
 {}

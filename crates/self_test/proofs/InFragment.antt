@@ -15,7 +15,7 @@ use Rattle.flow_graph.specs.declared.outside.Outside.TheVariants.{ManyExits}
 use Rattle.loop_forest.specs.Cycles.{ShowsTwoEntries}
 use Rattle.code_gen.specs.ElfFile.{start}
 use Rattle.code_runs.proofs.WordLemmas.{program-code}
-use Rattle.code_flow.proofs.Flows.{no-fault, no-forest-fault, no-two-entries}
+use Rattle.code_runs.proofs.Flows.{no-fault, no-forest-fault, no-two-entries}
 use Rattle.decompiler.specs.Names.{Spells, StandsFor}
 use Rattle.decompiler.specs.Faults.{IsFirst, Missing, Doubled, InCode, InCycle, InLoop}
 use Rattle.decompiler.specs.Listing.{IsRefused}

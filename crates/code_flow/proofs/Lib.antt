@@ -1,4 +1,0 @@
-pub mod Edges
-pub mod Leads
-pub mod Loops
-pub mod Flows
