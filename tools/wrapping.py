@@ -81,6 +81,6 @@ def wrapped_page(page):
             continue
         item = ITEM.match(block[0])
         first = item[0] if item else re.match(" *", block[0])[0]
-        text = " ".join([block[0][len(first):], *block[1:]])
+        text = " ".join([block[0][len(first):], *(line.strip() for line in block[1:])])
         lines += wrapped(text, first, " " * len(first))
     return "\n".join(lines)

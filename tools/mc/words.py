@@ -163,6 +163,7 @@ class Reading:
         for word in words[len(parameters) :]:
             if last is None:
                 self.faults.append(f"{shown(word)} is a word too many")
+                self.words.append(word)
             else:
                 self.take(last, word, self.new_name if last == "NAME.." else self.argument)
         self.compare_out()

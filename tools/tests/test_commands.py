@@ -127,6 +127,14 @@ class PassedOn(unittest.TestCase):
             _, _, errors = self.say(*given)
             self.assertIn(line, errors)
 
+    def test_words_too_many(self):
+        """Nothing is left out of what is passed on: the program answers, and writes nothing."""
+        for given in (("check", "gcd.elf", "gcd.proof"), ("migrate", "gcd.elf", "gcd.proof", "two"), ("simplify", "gcd.proof", "gcd", "two"), ("smt", "gcd.proof", "gcd", "1", "two"), ("laws", "gcd.proof", "two"), ("selftest", "1", "20")):
+            status, out, errors = self.say(*given, "more")
+            self.assertEqual((status, out), (2, "not a command\n"))
+            self.assertTrue(errors.startswith("mc: `more` is a word too many\nusage: "), errors)
+        self.assertNotIn("two", os.listdir(self.place))
+
     def test_overlapping_bytes(self):
         status, _, errors = self.say("eval", "gcd.proof", "gcd", "100", "mem=0x80:0102", "mem=0x81:03")
         self.assertEqual((status, errors), (0, "mc: two mem words have the bytes from 0x81 to 0x81: the later word's count\n"))
