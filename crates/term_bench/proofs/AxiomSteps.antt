@@ -4,7 +4,7 @@ use Rattle.std.specs.Prelude.{Contains, slice_get}
 use Rattle.std.specs.List.{list_any, position_or_len, range_with_len}
 use Rattle.std.proofs.Math.Nat.{mul-suc, suc-mul}
 use Rattle.std.proofs.lemmas.Bool.{cases_eq, eqb-true}
-use Rattle.std.proofs.lemmas.List.Elements.{All-head, All-tail}
+use Rattle.std.proofs.lemmas.List.Elements.{All-head, All-tail, filter_agree}
 use Rattle.std.proofs.lemmas.Option.{same_Some, slice_get_within}
 use Rattle.rv_words.specs.declared.width.Width.{Width}
 use Rattle.rv_words.specs.declared.width.Width.TheVariants.{B1, B2, B4, B8}
@@ -18,9 +18,10 @@ use Rattle.triple_kernel.specs.declared.form.Form.{Form}
 use Rattle.triple_kernel.specs.declared.form.Form.TheVariants.{Next, Taken}
 use Rattle.triple_kernel.specs.Tree.{So, TripleTree}
 use Rattle.instr_axioms.specs.Terms.{conditions, has_memory, loaded, memory_after, pc_after, result, sum, word_after, word_in}
-use Rattle.instr_axioms.specs.Axiom.{after, axiom_of, before, memory_if, own, own_triple, register_with, variables_for}
+use Rattle.instr_axioms.specs.Axiom.{after, axiom_of, before, is_own, memory_if, own, own_triple, register_with, variables_for}
 use Rattle.instr_axioms.proofs.AxiomLemmas.{axiom-parts}
 use Rattle.term_arena.specs.Arena.{Tree, OfWord, OfMem, mem_nodes, word_nodes}
+use Rattle.held_terms.specs.Subterms.{HasTree}
 use Rattle.term_arena.proofs.Places.{at_contains}
 use Rattle.term_bench.specs.Terms.{HasSubterms, assertion_terms, fact_terms, nodes_of, pair_steps, triple_terms}
 use Rattle.term_bench.proofs.PutSteps.{few_within, nodes_then, some_within}
@@ -73,9 +74,17 @@ filter-any (q ∷ qs) a n =
     let rest = filter-any qs a n in
     omega (arith, both, one, rest)
 
+-- of the registers that are among some there are no more than of these
+module _ (test : ℕ → Bool) (qs : List ℕ) (same : (r : ℕ) → test r ≡ list_any (λ q. eqb q r) qs) where
+  few-in : (a n : ℕ) → length (filter test (range_with_len a n)) ≤ length qs
+  few-in a n = subst (λ (xs : List ℕ). length xs ≤ length qs) (sym (filter_agree test (λ r. list_any (λ q. eqb q r) qs) same (range_with_len a n))) (filter-any qs a n)
+
+  registers-few : length (registers_where test) ≤ length qs
+  unfolding registers_where
+  registers-few = few-in 1 31
+
 own-few : (i : Instr) → length (own i) ≤ 1 + length (sources i)
-unfolding registers_where
-own-few i = filter-any (destination i ∷ sources i) 1 31
+own-few i = let few = registers-few (is_own i) (destination i ∷ sources i) (λ r. refl) in omega (arith, few)
 
 sources-few : (i : Instr) → length (sources i) ≤ 2
 sources-few (instr.Op o rd rs1 rs2) = omega arith
@@ -203,14 +212,21 @@ two-there ts x y c d apart =
       | inr other ↦ omega (arith, low, also, other)
     ]
 
-module _ (ts : List Tree) (a n : ℕ) (var : ℕ → ℕ) where
-  within : (regs : List ℕ) → length regs ≤ 3 → n ≤ 14 + 7 * length regs → Contains ts (OfWord (Const a)) → HasSubterms ts (map (λ r. OfWord r.1) (map (register_with (λ r. Var (var r))) regs)) → n ≤ pair_steps ts
-  within [] few le pc has = let one = one-there ts (OfWord (Const a)) pc in let enough = few_within (length ts) one in omega (arith, le, enough)
-  within (r ∷ regs) few le pc has =
-      let first : Contains ts (OfWord (Var (var r))) = All-head _ (OfWord (Var (var r))) _ has in
-      let two = two-there ts (OfWord (Const a)) (OfWord (Var (var r))) pc first (λ e. cc) in
-      let enough = some_within (length ts) two in
-      omega (arith, few, le, enough)
+module _ (ts : List Tree) where
+  abbrev Has : Tree → Type 0
+  Has t = HasTree ts (Some t)
+
+  module _ (a n : ℕ) (var : ℕ → ℕ) where
+    abbrev held_in : List ℕ → List Tree
+    held_in regs = map (λ r. OfWord r.1) (map (register_with (λ r. Var (var r))) regs)
+
+    within : (regs : List ℕ) → length regs ≤ 3 → n ≤ 14 + 7 * length regs → Contains ts (OfWord (Const a)) → HasSubterms ts (held_in regs) → n ≤ pair_steps ts
+    within [] few le pc has = let one = one-there ts (OfWord (Const a)) pc in let enough = few_within (length ts) one in omega (arith, le, enough)
+    within (r ∷ regs) few le pc has =
+        let first : Contains ts (OfWord (Var (var r))) = All-head Has (OfWord (Var (var r))) (held_in regs) has in
+        let two = two-there ts (OfWord (Const a)) (OfWord (Var (var r))) pc first (λ e. cc) in
+        let enough = some_within (length ts) two in
+        omega (arith, few, le, enough)
 
 own-within : (ts : List Tree) (i : Instr) (form : Form) (a w : ℕ) → HasSubterms ts (triple_terms (own_triple i form a w)) → nodes_of (triple_terms (own_triple i form a w)) ≤ pair_steps ts
 own-within ts i form a w has =
@@ -221,7 +237,7 @@ own-within ts i form a w has =
     let side : HasSubterms ts first = has_first ts first second (has_rest ts (facts i form a w) (first ++ second) has) in
     let few : length (own i) ≤ 3 = (let f = own-few i in let s = sources-few i in omega (arith, f, s)) in
     within ts a (nodes_of (triple_terms (own_triple i form a w))) (λ r. position_or_len (λ q. eqb q r) (own i)) (own i) few (axiom-nodes i form a w)
-    (All-head _ (OfWord (Const a)) (regs ++ mems) side) (has_first ts regs mems (All-tail _ (OfWord (Const a)) (regs ++ mems) side))
+    (All-head (Has ts) (OfWord (Const a)) (regs ++ mems) side) (has_first ts regs mems (All-tail (Has ts) (OfWord (Const a)) (regs ++ mems) side))
 
 pub axiom_within : (ts : List Tree) (a w : ℕ) (form : Form) (t : TripleTree) → axiom_of a w form ≡ Some t → HasSubterms ts (triple_terms t) → nodes_of (triple_terms t) ≤ pair_steps ts
 axiom_within ts a w form t e has =

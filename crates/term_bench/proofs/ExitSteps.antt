@@ -18,10 +18,13 @@ use Rattle.term_bench.specs.Terms.{HasSubterms, assertion_terms, fact_terms, tri
 use Rattle.term_bench.proofs.SubtermLemmas.{has_first, has_rest}
 
 module _ {B : Type 0} (var : ℕ → B) (of : B → Tree) (one : (m n : ℕ) → of (var m) ≡ of (var n) → m ≡ n) (ts : List Tree) (leaf : (k : ℕ) → HasTree ts (Some (of (var k))) → Contains ts (of (var k))) where
+  abbrev Has : Tree → Type 0
+  Has t = HasTree ts (Some t)
+
   there : (xs : List ℕ) → HasSubterms ts (map of (map var xs)) → (k x : ℕ) → slice_get xs k ≡ Some x → Contains ts (of (var x))
   there [] has k x e = absurd (cc)
-  there (y ∷ ys) has zero x e = let same : y ≡ x = cc in subst (λ (n : ℕ). Contains ts (of (var n))) same (leaf y (All-head _ (of (var y)) (map of (map var ys)) has))
-  there (y ∷ ys) has (suc k) x e = there ys (All-tail _ (of (var y)) (map of (map var ys)) has) k x e
+  there (y ∷ ys) has zero x e = let same : y ≡ x = cc in subst (λ (n : ℕ). Contains ts (of (var n))) same (leaf y (All-head Has (of (var y)) (map of (map var ys)) has))
+  there (y ∷ ys) has (suc k) x e = there ys (All-tail Has (of (var y)) (map of (map var ys)) has) k x e
 
   many : (first count : ℕ) → HasSubterms ts (map of (map var (range_with_len first count))) → count ≤ length ts
   many first count has =

@@ -4,5 +4,5 @@ use Rattle.term_bench.proofs.exits.exit_held.Goals as goal
 pub returns-in_default-clause-steps : goal.returns-in_default-clause-steps
 returns-in_default-clause-steps g c = λ ts has. omega arith
 
-pub returns-in_default-2-clause-steps : goal.returns-in_default-2-clause-steps
-returns-in_default-2-clause-steps g c = λ ts has. omega arith
+pub returns-in_default-get-clause-steps : goal.returns-in_default-get-clause-steps
+returns-in_default-get-clause-steps g c = λ ts has. omega arith
