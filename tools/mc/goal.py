@@ -107,8 +107,8 @@ def script_of(functions, goal=None):
 def write(path, text, inputs):
     """Writes a script, but over none of the files that it is made of."""
     for source in inputs:
-        if os.path.exists(path) and os.path.samefile(path, source):
-            raise scripts.Refused(f"{path} is a proof file that is read: nothing was done")
+        if os.path.exists(path) and os.path.exists(source) and os.path.samefile(path, source):
+            raise scripts.Refused(f"{path} is a file that is read: nothing was done")
     with open(path, "w", encoding="utf8") as file:
         file.write(text)
 
@@ -122,7 +122,7 @@ def main(arguments):
     try:
         functions = [function_of(word) for word in given.functions]
         text = "\n".join(script_of(functions, None if given.goal is None else smt.text_of(given.goal))) + "\n"
-        write(given.out, text, [function.path for function in functions])
+        write(given.out, text, [function.path for function in functions] + ([] if given.goal is None else [given.goal]))
     except (scripts.Refused, smt.BadExpression, program.NoProgram) as bad:
         print(bad, file=sys.stderr)
         return 1

@@ -137,6 +137,8 @@ def claim_of(given):
         raise scripts.Refused(f"d{function.number} calls d{unknown[-1]}, a loop: tell by --known {unknown[-1]} INV POST what is known of it")
     if given.measure is not None and not claim.is_loop:
         raise scripts.Refused(f"d{function.number} is no loop: no measure is wanted")
+    if not (claim.is_loop or given.post is not None or given.needs):
+        raise scripts.Refused(f"d{function.number} is no loop: without POST and --needs there is nothing to prove")
     return claim
 
 

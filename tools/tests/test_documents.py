@@ -51,6 +51,9 @@ class Wrapping(unittest.TestCase):
         words = "x " * 49 + "- y 1. z"
         self.assertFalse([line for line in wrapping.wrapped(words) if line[0] in "-1"])
 
+    def test_code_that_was_parted_has_one_space(self):
+        self.assertEqual(wrapping.wrapped_page("- an item with `a\n  b` in it"), "- an item with `a b` in it")
+
     def test_code_is_not_parted(self):
         self.assertEqual(wrapping.pieces("a `b c` (`d e`), f"), ["a", "`b c`", "(`d e`),", "f"])
 

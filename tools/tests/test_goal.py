@@ -99,11 +99,14 @@ class Scripts(unittest.TestCase):
                 self.assertFalse(self.out.exists())
         self.assertEqual(say(goal, self.out)[0], 2)
 
-    def test_no_proof_is_written_over(self):
-        self.out.write_bytes((EXAMPLES / "average" / "average.proof").read_bytes())
-        before = self.out.read_bytes()
-        self.assertEqual(say(goal, self.out, f"f={self.out}:average")[0], 1)
-        self.assertEqual(self.out.read_bytes(), before)
+    def test_no_file_that_is_read_is_written_over(self):
+        proof = EXAMPLES / "average" / "average.proof"
+        for name, words in ("average.proof", [f"f={self.out}:average"]), ("average.goal", [f"average={proof}:average", "--goal", self.out]):
+            before = (EXAMPLES / "average" / name).read_bytes()
+            self.out.write_bytes(before)
+            with mock.patch.object(program, "run", average_script):
+                self.assertEqual(say(goal, self.out, *words), (1, "", f"{self.out} is a file that is read: nothing was done\n"))
+            self.assertEqual(self.out.read_bytes(), before)
 
     @needs_solver
     def test_the_average(self):

@@ -165,7 +165,8 @@ class Scripts(unittest.TestCase):
         self.assertEqual(say(loop, GCD, "gcd", 0)[0], 2)
         self.assertEqual(say(loop, GCD, "gcd", 0, "true", "--scripts")[0], 2)
         self.assertIn("calls d0, a loop: tell by --known 0", say(loop, GCD, "gcd", 4, "true")[2])
-        self.assertIn("d1 is no loop", say(loop, GCD, "gcd", 1, "true", "--measure", "a1")[2])
+        self.assertIn("d1 is no loop: no measure", say(loop, GCD, "gcd", 1, "true", "--measure", "a1")[2])
+        self.assertEqual(say(loop, GCD, "gcd", 1, "true")[::2], (1, "d1 is no loop: without POST and --needs there is nothing to prove\n"))
 
     @needs_solver
     def test_the_loop_of_gcd(self):
