@@ -1,5 +1,5 @@
 -- Terms, facts and registers within limits, item by item.
-use Rattle.std.proofs.Common.{◌≡◌, ℕ, ◌+◌, ◌<◌, Some, List, [], ◌∷◌, ◌++◌, Bool, false, length, get_or, map, take, refl, sym, ap, subst, arith, suc, zero}
+use Rattle.std.proofs.Common.{◌≡◌, ℕ, ◌+◌, ◌<◌, List, [], ◌∷◌, ◌++◌, Bool, false, length, get_or, map, take, refl, sym, ap, subst, arith, suc, zero}
 use Rattle.std.specs.Prelude.{◌↔◌, IsTrue}
 use Rattle.std.specs.List.{AllByRecursion}
 use Rattle.tailrec_lang.proofs.Lists.{map-take_more}

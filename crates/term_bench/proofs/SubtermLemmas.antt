@@ -1,10 +1,8 @@
 -- Lists that have the subterms of trees have those of the numbers that stand for them.
-use Rattle.std.proofs.Common.{◌≡◌, ℕ, List, [], ◌∷◌, ◌++◌, Option, Some, flat_map, map, sym, subst}
-use Rattle.std.specs.Prelude.{All}
+use Rattle.std.proofs.Common.{◌≡◌, ℕ, List, [], ◌∷◌, ◌++◌, Some, flat_map, map, sym, subst}
 use Rattle.std.proofs.lemmas.List.Elements.{All-cons, All-head, All-nil, All-tail}
 use Rattle.term_arena.specs.declared.node.Node.{Node}
-use Rattle.term_arena.specs.Arena.{Tree, OfWord, OfMem, OfCond, IsWordAt, mem_of, tree_of, word_of}
-use Rattle.triple_kernel.specs.Tree.{TripleTree}
+use Rattle.term_arena.specs.Arena.{Tree, OfWord, OfMem, IsWordAt, mem_of, tree_of, word_of}
 use Rattle.held_terms.specs.declared.held.HeldValues.{HeldValues}
 use Rattle.held_terms.specs.declared.held.HeldFact.{HeldFact}
 use Rattle.held_terms.specs.declared.held.HeldFact.TheVariants as held
