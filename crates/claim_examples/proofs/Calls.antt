@@ -21,7 +21,7 @@ use Rattle.claims.specs.Headline.{AreApart, Ends, Region, Starts}
 use Rattle.claims.specs.Exact.{Gives}
 use Rattle.claims.specs.LinkExact.{IsAtCall, LinkExact, ReturnsBack, StaysIn}
 use Rattle.claims.specs.Turns.{InFirstMemory}
-use Rattle.headline_examples.specs.Sum.{sum_registers}
+use Rattle.claim_examples.specs.Sum.{sum_registers}
 use Rattle.claim_examples.specs.Call.{call_file, call_group, call_start, nothing_called, sum_called}
 
 -- ---- the states

@@ -1,3 +1,8 @@
+mod Ends
+mod Paths
+mod SumLemmas
+mod StoreLemmas
+mod Returns
 mod Alike
 mod Told
 mod Calls

@@ -23,8 +23,8 @@ use Rattle.claims.specs.Headline.{AreApart, Ends, Starts, cut, held_in, is_withi
 use Rattle.claims.specs.Exact.{Gives}
 use Rattle.claims.specs.LinkExact.{FirstReturnsIn}
 use Rattle.stack_offsets.specs.SplitExact.{SplitExact, UsesSplit}
-use Rattle.headline_examples.specs.Store.{at_place, place}
-use Rattle.headline_examples.proofs.Paths.{IsPath, first-along-in}
+use Rattle.claim_examples.specs.Store.{at_place, place}
+use Rattle.claim_examples.proofs.Paths.{IsPath, first-along-in}
 use Rattle.claim_examples.specs.Split.{all_in_first, at_stack, split_file, split_memory, split_registers, split_start, splitting, stack_place, stores_apart, two_regions}
 
 abbrev code : Bytes

@@ -8,7 +8,7 @@ use Rattle.tailrec_lang.specs.declared.group.Exit.TheVariants.{Ret}
 use Rattle.tailrec_lang.specs.Tree.{Call, Leave, NoArm, Arm, DefTree, GroupTree}
 use Rattle.code_gen.specs.ElfFile.{elf_of}
 use Rattle.rv_machine.specs.State.{State}
-use Rattle.headline_examples.specs.Sum.{sum_registers}
+use Rattle.claim_examples.specs.Sum.{sum_registers}
 
 abbrev pub call_file : List ℕ
 call_file = elf_of (0x0000_82b3 ∷ 0x00c0_00ef ∷ 0x0002_80b3 ∷ 0x0000_8067 ∷ 0x00b5_0533 ∷ 0x0000_8067 ∷ [])

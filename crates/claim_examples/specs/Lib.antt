@@ -1,3 +1,5 @@
+pub mod Sum
+pub mod Store
 pub mod Words
 pub mod Call
 pub mod Split

@@ -10,8 +10,8 @@ use Rattle.tailrec_lang.specs.Tree.{BindMem, Do, Leave, BodyTree, GroupTree}
 use Rattle.code_gen.specs.ElfFile.{elf_of}
 use Rattle.rv_machine.specs.State.{State}
 use Rattle.claims.specs.Headline.{Region}
-use Rattle.headline_examples.specs.Sum.{returned_to}
-use Rattle.headline_examples.specs.Store.{at_place, place}
+use Rattle.claim_examples.specs.Sum.{returned_to}
+use Rattle.claim_examples.specs.Store.{at_place, place}
 
 abbrev pub split_file : List ℕ
 split_file = elf_of (0xfea1_0c23 ∷ 0x00a5_8023 ∷ 0x0000_8067 ∷ [])

@@ -1,5 +1,5 @@
-use Rattle.headline_examples.proofs.SumLemmas.{sum-starts, sum-done, sum-ends}
-use Rattle.headline_examples.proofs.law_of_sum.Goals as goal
+use Rattle.claim_examples.proofs.SumLemmas.{sum-starts, sum-done, sum-ends}
+use Rattle.claim_examples.proofs.law_of_sum.Goals as goal
 
 pub returns-clause-starts : goal.returns-clause-starts
 returns-clause-starts c = sum-starts

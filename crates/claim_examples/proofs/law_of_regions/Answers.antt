@@ -1,5 +1,5 @@
-use Rattle.headline_examples.proofs.StoreLemmas.{store-starts, keeps-starts}
-use Rattle.headline_examples.proofs.law_of_regions.Goals as goal
+use Rattle.claim_examples.proofs.StoreLemmas.{store-starts, keeps-starts}
+use Rattle.claim_examples.proofs.law_of_regions.Goals as goal
 
 pub returns-clause-stores : goal.returns-clause-stores
 returns-clause-stores c = store-starts

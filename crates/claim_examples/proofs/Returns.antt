@@ -12,9 +12,9 @@ use Rattle.tailrec_lang.specs.Eval.{Arguments, Done, eval}
 use Rattle.claims.specs.Headline.{IsRight, Region, held_in, is_within}
 use Rattle.claims.specs.Exact.{Exact, FirstReturns, Gives}
 use Rattle.claims.specs.Turns.{CountsSteps}
-use Rattle.headline_examples.specs.Sum.{needing, sum, sum_file, sum_results, sum_start}
-use Rattle.headline_examples.proofs.Paths.{IsPath, first-along}
-use Rattle.headline_examples.proofs.SumLemmas.{added, first-step, returned, second-step, starts, sum-ended, sum-starts}
+use Rattle.claim_examples.specs.Sum.{needing, sum, sum_file, sum_results, sum_start}
+use Rattle.claim_examples.proofs.Paths.{IsPath, first-along}
+use Rattle.claim_examples.proofs.SumLemmas.{added, first-step, returned, second-step, starts, sum-ended, sum-starts}
 
 abbrev stands : ℕ → State
 stands zero = sum_start

@@ -10,7 +10,7 @@ use Rattle.tailrec_lang.specs.Tree.{BindMem, Do, Leave, BodyTree, GroupTree}
 use Rattle.code_gen.specs.ElfFile.{elf_of}
 use Rattle.rv_machine.specs.State.{State}
 use Rattle.claims.specs.Headline.{Region}
-use Rattle.headline_examples.specs.Sum.{returned_to}
+use Rattle.claim_examples.specs.Sum.{returned_to}
 
 abbrev pub store_file : List ℕ
 store_file = elf_of (0x00a5_8023 ∷ 0x0000_8067 ∷ [])

@@ -14,8 +14,8 @@ use Rattle.tailrec_lang.specs.Tree.{BodyTree, listed_def}
 use Rattle.tailrec_lang.specs.Eval.{Arguments, Done, eval}
 use Rattle.code_gen.specs.ElfFile.{elf_of}
 use Rattle.claims.specs.Headline.{AreApart, Ends, IsRight, Starts, held_in}
-use Rattle.headline_examples.specs.Sum.{adding, narrow, sum, sum_file, sum_registers, sum_results, sum_start, wrong}
-use Rattle.headline_examples.proofs.Ends.{only-end}
+use Rattle.claim_examples.specs.Sum.{adding, narrow, sum, sum_file, sum_registers, sum_results, sum_start, wrong}
+use Rattle.claim_examples.proofs.Ends.{only-end}
 
 same-code : code_of_file sum_file ≡ range_bytes sum.code
 unfolding number_at elf_of

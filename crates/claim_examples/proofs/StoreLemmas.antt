@@ -14,8 +14,8 @@ use Rattle.tailrec_lang.specs.Tree.{BodyTree, listed_def}
 use Rattle.tailrec_lang.specs.Eval.{Arguments, Done, eval}
 use Rattle.code_gen.specs.ElfFile.{elf_of}
 use Rattle.claims.specs.Headline.{IsRight, Starts, cut, held_in, is_within}
-use Rattle.headline_examples.specs.Store.{at_place, keeps, memory_with, place, quiet, store_file, store_registers, store_start, stores, storing}
-use Rattle.headline_examples.proofs.Ends.{only-end}
+use Rattle.claim_examples.specs.Store.{at_place, keeps, memory_with, place, quiet, store_file, store_registers, store_start, stores, storing}
+use Rattle.claim_examples.proofs.Ends.{only-end}
 
 same-code : code_of_file store_file ≡ range_bytes stores.code
 unfolding number_at elf_of

@@ -1,5 +1,0 @@
-mod Ends
-mod SumLemmas
-mod StoreLemmas
-pub mod Paths
-mod Returns

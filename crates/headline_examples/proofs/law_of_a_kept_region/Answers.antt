@@ -1,5 +1,0 @@
-use Rattle.headline_examples.proofs.StoreLemmas.{keeps-refuted}
-use Rattle.headline_examples.proofs.law_of_a_kept_region.Goals as goal
-
-pub returns : goal.returns
-returns c = keeps-refuted

@@ -1,5 +1,0 @@
-use Rattle.headline_examples.proofs.Returns.{sum-returned}
-use Rattle.headline_examples.proofs.law_of_a_return.Goals as goal
-
-pub returns : goal.returns
-returns c = sum-returned

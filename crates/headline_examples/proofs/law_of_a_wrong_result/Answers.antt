@@ -1,5 +1,0 @@
-use Rattle.headline_examples.proofs.SumLemmas.{wrong-refuted}
-use Rattle.headline_examples.proofs.law_of_a_wrong_result.Goals as goal
-
-pub returns : goal.returns
-returns c = wrong-refuted

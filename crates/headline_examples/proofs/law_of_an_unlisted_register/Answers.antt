@@ -1,5 +1,0 @@
-use Rattle.headline_examples.proofs.SumLemmas.{narrow-refuted}
-use Rattle.headline_examples.proofs.law_of_an_unlisted_register.Goals as goal
-
-pub returns : goal.returns
-returns c = narrow-refuted
