@@ -9,7 +9,7 @@ ghost use Rattle.path_walk.specs.Forgotten.{KeepsNone};
 ghost use Rattle.path_walk.specs.Split.{IsSplitItem};
 
 use crate::item::{Item, item_in};
-use code_parts::{Flow, Context, parts_of};
+use code_parts::{Context, Flow, parts_of};
 use flow_graph::Graph;
 use group_text::Version;
 use loop_forest::Forest;
