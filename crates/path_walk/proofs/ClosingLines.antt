@@ -16,6 +16,7 @@ use Rattle.loop_rule.specs.Tree.{LeafTree}
 use Rattle.loop_rule.specs.Leaves.{body_leaves, leaves_of}
 use Rattle.loop_rule.specs.Rule.{IsClosedBy, IsLedTo, LeadsTo}
 use Rattle.checker.specs.Instance.{AreInstancesBy, History, after_line, after_lines, no_lines, with_closed}
+use Rattle.code_parts.proofs.Lists.{length-map}
 use Rattle.code_parts.specs.declared.part.Part.{Part}
 use Rattle.code_parts.specs.declared.part.Part.TheVariants as part
 use Rattle.code_parts.specs.Bodies.{Flow, VariableMap, arms_over, body_at, current, end_at, first, fresh, part_body, part_def, start}
@@ -209,6 +210,21 @@ pub next_is : (before more after : List Line) (first next : ℕ) → after ≡ b
 next_is before more after first next is at count =
     count ∙ (λ i. at i + stated (map line_tree more)) ∙ sym (next-after (after_lines (map line_tree before)) (map line_tree more))
     ∙ ap (λ (h : History). h.next) (sym (fold-join no_lines (map line_tree before) (map line_tree more))) ∙ ap (λ (ls : List LineTree). (after_lines ls).next) (sym (added before more after is))
+
+stated-low : (ls : List LineTree) → stated ls ≤ length ls
+stated-low [] = omega arith
+stated-low (States rule t ∷ ls) = let rest = stated-low ls in omega (arith, rest)
+stated-low (Loop d cited ∷ ls) = let rest = stated-low ls in omega (arith, rest)
+stated-low (Forget k ∷ ls) = let rest = stated-low ls in omega (arith, rest)
+stated-low (Further p t ∷ ls) = let rest = stated-low ls in omega (arith, rest)
+
+-- there are no more theorems than lines
+pub next-low : (lines : List Line) → (after_lines (map line_tree lines)).next ≤ length lines
+next-low lines =
+    let count = next-after no_lines (map line_tree lines) in
+    let low = stated-low (map line_tree lines) in
+    let long = length-map line_tree lines in
+    omega (arith, count, low, long)
 
 stated-push : (ls : List LineTree) (l : LineTree) → stated (ls ++ l ∷ []) ≡ stated ls + stated (l ∷ [])
 stated-push [] l = omega arith

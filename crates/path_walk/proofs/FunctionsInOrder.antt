@@ -4,7 +4,7 @@ use Rattle.std.proofs.lemmas.Option.{slice_get-get_or, slice_get_within}
 use Rattle.std.specs.Prelude.{option_map, slice_get}
 use Rattle.std.specs.List.{AllByRecursion, sum_by}
 use Rattle.std.proofs.lemmas.List.{take_more}
-use Rattle.std.proofs.lemmas.List.Sums.{sum_by_push}
+use Rattle.std.proofs.lemmas.List.Sums.{sum_by-cons, sum_by_push}
 use Rattle.call_graph.specs.Functions.{size_of}
 use Rattle.call_graph.specs.declared.function.Function.{Function}
 use Rattle.rv_words.specs.Bytes.{Bytes, AreBytes}
@@ -306,6 +306,16 @@ module _ (s : LinkedGroup) (name : List ℕ) (can : CanAllBeWalked s name) (base
       (record { right = closed.right; closed = λ d lt. closed.closed d (subst (λ (ds : List DefTree). d < length ds) (sym same) lt) }, same)
 
 -- ---- how many instructions they have
+
+pub size-low : (fs : List LinkedFunction) (i : ℕ) → sum_by size_of (map (λ f. f.function.now) (take i fs)) ≤ sum_by size_of (map (λ f. f.function.now) fs)
+size-low [] zero = omega arith
+size-low [] (suc i) = omega arith
+size-low (f ∷ fs) zero = omega arith
+size-low (f ∷ fs) (suc i) =
+    let rest = size-low fs i in
+    let front = sum_by-cons size_of f.function.now (map (λ (f : LinkedFunction). f.function.now) (take i fs)) in
+    let all = sum_by-cons size_of f.function.now (map (λ (f : LinkedFunction). f.function.now) fs) in
+    omega (arith, rest, front, all)
 
 pub size-more : (fs : List LinkedFunction) (i : ℕ) (f : LinkedFunction) (size n : ℕ) → i < length fs → f ≡ get_or fs i f → size ≡ sum_by size_of (map (λ f. f.function.now) (take i fs)) → n ≡ length f.function.now.graph.addrs →
     size + n ≡ sum_by size_of (map (λ f. f.function.now) (take (i + 1) fs))

@@ -51,9 +51,6 @@ fn lines_from(
         (option_map cited_tree (option_copied from.entry))
         (spec.body_at room (flow_in flow.now) p n (place_of place.now))) }
 {
-    if room == 0 {
-        return Err(NoMemory);
-    }
     match flow.callee(n) {
         Some(callee) => calling_lines(alloc, flow, p, n, callee, place, room, from, log),
         None => acting_lines(alloc, flow, p, n, place, room, from, log),

@@ -1,6 +1,6 @@
 //! The group of linked functions with the lines of its proof.
 
-ghost use Rattle.std.specs.Prelude.{◌≡◌, ℕ, ◌++◌, List as Items, IfOk, OnOk, length, map};
+ghost use Rattle.std.specs.Prelude.{◌≡◌, ℕ, ◌<◌, ◌^◌, ◌++◌, List as Items, IfOk, OnOk, length, map};
 ghost use Rattle.std.specs.List.{All, sum_by};
 ghost use Rattle.tailrec_lang.specs.Tree.{def_tree};
 ghost use Rattle.group_text.specs.declared.version.Version.TheVariants.{Three};
@@ -91,17 +91,15 @@ fn walk_function(
 }
 
 /// How many instructions these functions have.
-fn size_of(functions: &[LinkedFunction<'_>]) -> Result<u32, NoMemory>
-    ensures { IfOk result (λ n. n ≡ sum_by the_size (map (λ f. f.function.now) functions.now)) }
+fn size_of(functions: &[LinkedFunction<'_>]) -> u32
+    requires { sum_by the_size (map (λ f. f.function.now) functions.now) < 2 ^ 32 }
+    ensures { result ≡ sum_by the_size (map (λ f. f.function.now) functions.now) }
 {
-    let mut size: u32 = 0;
+    let mut size = 0;
     for function in functions {
-        let Some(more) = size.checked_add(function.function.graph.len()) else {
-            return Err(NoMemory);
-        };
-        size = more;
+        size += function.function.graph.len();
     }
-    Ok(size)
+    size
 }
 
 /// What the walk through all of them rests on.
@@ -127,7 +125,7 @@ pub fn linked_item(alloc: Global, name: Text, group: &LinkedGroup<'_>) -> Result
     for function in group.functions.as_slice() {
         next = walk_function(alloc, group, function, next, &mut defs, &mut lines)?;
     }
-    let reached = size_of(group.functions.as_slice())?;
+    let reached = size_of(group.functions.as_slice());
     let regs = List::from_slice(alloc, group.regs.as_slice())?;
     let code = copy_code(alloc, &group.code)?;
     Ok(Item {

@@ -34,7 +34,8 @@ pub struct Walked {
 
 /// How many theorems a line makes.
 fn count_of(line: &Line) -> u64
-    ensures { result ≡ stated (line_tree line.now ∷ []) }
+    ensures count { result ≡ stated (line_tree line.now ∷ []) }
+    ensures one { result ≤ 1 }
 {
     match line {
         Line::States { .. } => 1,
@@ -45,18 +46,15 @@ fn count_of(line: &Line) -> u64
 }
 
 /// The number of the next theorem after these lines.
-fn next_after(first: u64, lines: &[Line]) -> Result<u64, NoMemory>
-    ensures next { IfOk result (λ k. k ≡ first + stated (map line_tree lines.now)) }
-    ensures fits { IfOk result (λ k. k < 2 ^ 64) }
+fn next_after(first: u64, lines: &[Line]) -> u64
+    requires { first < 2 ^ 63 }
+    ensures { result ≡ first + stated (map line_tree lines.now) }
 {
     let mut next = first;
     for line in lines {
-        let Some(more) = next.checked_add(count_of(line)) else {
-            return Err(NoMemory);
-        };
-        next = more;
+        next += count_of(line);
     }
-    Ok(next)
+    next
 }
 
 /// Lines that forget the theorems from that number on, below that of the next.
@@ -81,6 +79,7 @@ fn closing_lines(
 ) -> Result<List<Line>, NoMemory>
     requires version { IsVersionFor (flow_in flow.now) version }
     requires part { IsPart (flow_in flow.now) part }
+    requires first { first < 2 ^ 63 }
     ensures lines { IfOk result (λ more.
         (old : Items LineTree)
         → first ≡ (after_lines old).next
@@ -95,7 +94,7 @@ fn closing_lines(
     let mut log = ProofWriter::new(alloc, version, first);
     part_lines(alloc, flow, part, &mut log)?;
     let (mut lines, cited) = log.into_parts();
-    let next = next_after(first, lines.as_slice())?;
+    let next = next_after(first, lines.as_slice());
     lines.push(Line::Loop {
         def: flow.number(part),
         cited,
@@ -126,9 +125,10 @@ pub fn walk_in(
         → KeepsNone (after_lines (map line_tree lines.new))) }
     ensures same { OnErr result (lines.new ≡ lines.old) }
 {
+    let _lines = lines.as_slice();
     let def = part_def(alloc, flow, part)?;
     let more = closing_lines(alloc, flow, version, part, first)?;
-    let next = next_after(first, more.as_slice())?;
+    let next = next_after(first, more.as_slice());
     lines.append(more)?;
     Ok(Walked { def, next })
 }

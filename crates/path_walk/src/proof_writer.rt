@@ -98,6 +98,7 @@ pub struct ProofWriter {
 }
 
 impl Model for ProofWriter {
+    ghost use Rattle.std.specs.Prelude.{◌+◌, ◌<◌, ◌^◌, length};
     ghost use Rattle.std.specs.Coded.{codes};
     ghost use Rattle.word_terms.specs.contracts.term.Word as word;
     ghost use Rattle.word_terms.specs.contracts.term.Mem as mem;
@@ -110,12 +111,13 @@ impl Model for ProofWriter {
 
     ghost view = { λ l. record { version = l.version; lines = l.lines; next = l.next; cited = l.cited } };
 
-    ghost invariant = { λ l. IsFineWriter (writer_tree (record { version = l.version; lines = l.lines; next = l.next; cited = l.cited })) };
+    ghost invariant = { λ l. IsFineWriter (writer_tree (record { version = l.version; lines = l.lines; next = l.next; cited = l.cited })) × (l.next < 2 ^ 63 + length l.lines) };
 }
 
 impl ProofWriter {
     /// No line yet.
     pub fn new(alloc: Global, version: Version, first: u64) -> ProofWriter
+        requires { first < 2 ^ 63 }
         ensures { writer_tree result
             ≡ record { version = version; lines = []; next = first; cited = [] } }
     {
@@ -137,9 +139,8 @@ impl ProofWriter {
             ≡ stating (rule_tree rule) (triple_tree stated) (writer_tree self.old)) }
     {
         let number = self.next;
-        let Some(next) = number.checked_add(1) else {
-            return Err(NoMemory);
-        };
+        let _lines = self.lines.as_slice();
+        let next = number + 1;
         self.lines.push(Line::States { rule, stated })?;
         self.next = next;
         Ok(number)
@@ -179,9 +180,8 @@ impl ProofWriter {
             ≡ stating_further cited (triple_tree stated) (writer_tree self.old)) }
     {
         let number = self.next;
-        let Some(next) = number.checked_add(1) else {
-            return Err(NoMemory);
-        };
+        let _lines = self.lines.as_slice();
+        let next = number + 1;
         self.lines.push(Line::Further { cited, stated })?;
         self.next = next;
         Ok(number)

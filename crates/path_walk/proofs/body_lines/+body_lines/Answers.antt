@@ -84,13 +84,13 @@ lines_to-lines_from-requires t c = (
 pub lines_from-calling_lines-requires : goal.lines_from-calling_lines-requires
 lines_from-calling_lines-requires t c = (
   omega (arith, c.decreases),
-  (c.requires.part, (c.requires.near, (sym c.callee.ensures.is ∙ c.in-Some.is, (omega (arith, c.if-room-eq0.false), (c.requires.words, (c.requires.mems, (c.requires.code, c.requires.version))))))),
+  (c.requires.part, (c.requires.near, (sym c.callee.ensures.is ∙ c.in-Some.is, (omega (arith, c.requires.near.near), (c.requires.words, (c.requires.mems, (c.requires.code, c.requires.version))))))),
 )
 
 pub lines_from-acting_lines-requires : goal.lines_from-acting_lines-requires
 lines_from-acting_lines-requires t c = (
   omega (arith, c.decreases),
-  (c.requires.part, (c.requires.near, (sym c.callee.ensures.is ∙ c.in-None.is, (omega (arith, c.if-room-eq0.false), (c.requires.words, (c.requires.mems, (c.requires.code, c.requires.version))))))),
+  (c.requires.part, (c.requires.near, (sym c.callee.ensures.is ∙ c.in-None.is, (omega (arith, c.requires.near.near), (c.requires.words, (c.requires.mems, (c.requires.code, c.requires.version))))))),
 )
 
 pub calling_lines-step-requires-clause-form : goal.calling_lines-step-requires-clause-form

@@ -41,6 +41,12 @@ loop-function-preserved c = (
   c.in_ok-next.ensures.kept c.loop-function.invariant.2,
 )
 
+pub size_of-reached-requires : goal.size_of-reached-requires
+size_of-reached-requires c =
+    let few = c.requires.functions.are.few in
+    let same = ap (λ (fs : List LinkedFunction). sum_by size_of (map (λ f. f.function.now) fs)) c.as_slice.ensures in
+    omega (arith, few, same)
+
 pub returns-clause-item : goal.returns-clause-item
 returns-clause-item c =
     let all : c.loop-function.function-index ≡ length c.as_slice-function-items.result.now = omega arith in
@@ -54,7 +60,7 @@ returns-clause-item c =
       group = same;
       lines = subst (λ (g : GroupTree). AreClosedIn Three g (map line_tree c.loop-function.lines)) (sym same) walked.0;
       fine = c.loop-function.invariant.0.fine;
-      reached = c.in_ok-reached.ensures ∙ ap (λ (fs : List LinkedFunction). sum_by size_of (map (λ f. f.function.now) fs)) c.as_slice.ensures;
+      reached = c.size_of-reached.ensures ∙ ap (λ (fs : List LinkedFunction). sum_by size_of (map (λ f. f.function.now) fs)) c.as_slice.ensures;
     }
 
 pub returns-clause-kept : goal.returns-clause-kept

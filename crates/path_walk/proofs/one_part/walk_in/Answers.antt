@@ -1,16 +1,28 @@
-use Rattle.std.proofs.Common.{List, ap, sym, subst, ◌+◌, ◌∙◌, map}
+use Rattle.std.proofs.Common.{List, length, ap, sym, subst, ◌+◌, ◌∙◌, map, arith}
 use Rattle.proof_text.specs.Line.{LineTree, line_tree}
 use Rattle.proof_text.specs.declared.line.Line.{Line}
 use Rattle.checker.specs.Instance.{after_lines}
 use Rattle.path_walk.specs.Forgotten.{KeepsNone}
 use Rattle.path_walk.specs.inner.Lines.{stated}
-use Rattle.path_walk.proofs.ClosingLines.{added, next_is}
+use Rattle.path_walk.proofs.ClosingLines.{added, next-low, next_is}
 use Rattle.path_walk.proofs.one_part.walk_in.Goals as goal
+
+pub closing_lines-requires-clause-first : goal.closing_lines-requires-clause-first
+closing_lines-requires-clause-first c =
+    let low = next-low c.args.lines.now in
+    let long = ap (λ (ls : List Line). length ls) c.as_slice-lines.ensures in
+    omega (arith, low, c.requires.first, long)
+
+pub next_after-next-requires : goal.next_after-next-requires
+next_after-next-requires c =
+    let low = next-low c.args.lines.now in
+    let long = ap (λ (ls : List Line). length ls) c.as_slice-lines.ensures in
+    omega (arith, low, c.requires.first, long)
 
 pub returns-clause-next : goal.returns-clause-next
 returns-clause-next c =
-    next_is c.args.lines.now c.in_ok-more.more c.append.new.self c.args.first c.in_ok-next.next c.in_ok-append.ensures.ok c.requires.first
-    (c.in_ok-next.ensures.next ∙ ap (λ (ls : List Line). c.args.first + stated (map line_tree ls)) c.as_slice.ensures)
+    next_is c.args.lines.now c.in_ok-more.more c.append.new.self c.args.first c.next_after-next.result c.in_ok-append.ensures.ok c.requires.first
+    (c.next_after-next.ensures ∙ ap (λ (ls : List Line). c.args.first + stated (map line_tree ls)) c.as_slice.ensures)
 
 pub returns-clause-kept : goal.returns-clause-kept
 returns-clause-kept c = λ none.
