@@ -10,5 +10,6 @@ mod machine;
 mod rewriting;
 mod rows;
 mod shelves;
+mod theorems;
 mod tokens;
 mod words;

@@ -77,6 +77,7 @@ impl Cases {
             "hex" => self.files.set(name, hex::decode(self.alloc, value)?)?,
             "elf" => self.files.set(name, elf_of(self.alloc, value)?)?,
             "copy" => self.files.set(name, self.files.copy(value)?)?,
+            "long" => self.files.set_long(name, value.parse::<u64>()?)?,
             "drop" => self.files.remove(name),
             "add" => self.files.add(name, &hex::decode(self.alloc, value)?)?,
             "put" => self.put(name, value)?,

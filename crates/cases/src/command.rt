@@ -1,6 +1,7 @@
 //! A command with what is to happen to it, and its answer.
 
 use crate::files::Files;
+use crate::long_shelf::LongShelf;
 use anyhow::{Result, anyhow};
 use mc_shelf::{MemShelf, MemSink};
 use mcdec_commands::run_words;
@@ -17,7 +18,7 @@ pub struct Failures {
 #[derive(Drop)]
 pub struct Left {
     pub status: u8,
-    pub shelf: MemShelf,
+    pub shelf: LongShelf,
     pub sink: MemSink,
 }
 
@@ -32,17 +33,17 @@ pub fn words_of(alloc: Global, line: &str) -> Result<Vec<String>> {
 
 /// Runs the command over those files that its words name.
 pub fn run(alloc: Global, words: &[String], files: &Files, failures: &Failures) -> Result<Left> {
-    let mut shelf = MemShelf::new(alloc);
+    let mut held = MemShelf::new(alloc);
     for word in words {
         if let Some(bytes) = files.held(word.as_str()) {
-            shelf
-                .set(word.as_str(), bytes.as_slice())
+            held.set(word.as_str(), bytes.as_slice())
                 .map_err(|_| anyhow!("no memory"))?;
         }
     }
     for &(call, kept) in &failures.shelf {
-        shelf.fail(call, kept).map_err(|_| anyhow!("no memory"))?;
+        held.fail(call, kept).map_err(|_| anyhow!("no memory"))?;
     }
+    let mut shelf = LongShelf::new(held, files.long()?);
     let mut sink = MemSink::new(alloc);
     for &(call, kept) in &failures.sink {
         sink.fail(call, kept).map_err(|_| anyhow!("no memory"))?;

@@ -1,5 +1,6 @@
 //! Files by their names, and changes of them.
 
+use crate::long_shelf::EmptyLines;
 use anyhow::{Result, anyhow, bail};
 use code_gen::elf_file;
 use rv_words::List;
@@ -12,6 +13,8 @@ pub struct Files {
     alloc: Global,
     given: BTreeMap<String, Vec<u8>>,
     own: BTreeMap<String, Vec<u8>>,
+    /// A name that is held without memory, where it is missing otherwise.
+    long: Option<EmptyLines>,
     /// Whether there was a case.
     in_case: bool,
 }
@@ -22,6 +25,7 @@ impl Files {
             alloc,
             given: BTreeMap::new(alloc),
             own: BTreeMap::new(alloc),
+            long: None,
             in_case: false,
         }
     }
@@ -29,6 +33,7 @@ impl Files {
     /// Begins a case.
     pub fn begin(&mut self) {
         self.own = BTreeMap::new(self.alloc);
+        self.long = None;
         self.in_case = true;
     }
 
@@ -63,6 +68,24 @@ impl Files {
             self.given.insert(name, bytes)?;
         }
         Ok(())
+    }
+
+    /// Lets the name hold so many empty lines where it is missing, in place of another one that did.
+    pub fn set_long(&mut self, name: &str, count: u64) -> Result<()> {
+        let name = String::from_str(self.alloc, name)?;
+        self.long = Some(EmptyLines { name, count });
+        Ok(())
+    }
+
+    /// A copy of the name that does, and of how many lines they are.
+    pub fn long(&self) -> Result<Option<EmptyLines>> {
+        match &self.long {
+            Some(long) => Ok(Some(EmptyLines {
+                name: String::from_str(self.alloc, long.name.as_str())?,
+                count: long.count,
+            })),
+            None => Ok(None),
+        }
     }
 
     pub fn remove(&mut self, name: &str) {

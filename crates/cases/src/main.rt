@@ -10,6 +10,7 @@
 //!     hex NAME BYTES         .. these bytes, in hexadecimal digits
 //!     elf NAME WORD..        .. an ELF file with these instruction words at 0x10000; WORD*N is N of them
 //!     copy NAME OTHER        .. what the other one holds
+//!     long NAME COUNT        .. so many empty lines, where it is missing; no memory is taken for them, and a case has one such name
 //!     drop NAME              .. nothing, and is missing
 //!     add NAME BYTES         adds bytes at the end
 //!     put NAME AT BYTES      writes bytes over those from that offset on
@@ -33,6 +34,7 @@
 mod cases;
 mod command;
 mod files;
+mod long_shelf;
 mod page;
 
 use anyhow::Result;

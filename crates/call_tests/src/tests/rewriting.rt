@@ -7,7 +7,6 @@ use smt_export::export;
 use smt_terms::{Script, script_bytes};
 use smt_values::{Smt, value_of};
 use std::alloc::Global;
-use std::test::Fail;
 use tailrec_lang::{Group, well_formed};
 
 /// Two steps that rewrite the sum of x10 and x11, each of which has an operation too many.
@@ -29,29 +28,39 @@ leave 0 v2 v1 ;
 end
 ";
 
-#[test]
-fn a_certificate_is_made_and_printed(rt: HostRuntime) -> Result<(), Fail> {
-    let alloc = rt.alloc();
-    let Ok(read) = read_cert(alloc, CERT.as_bytes()) else {
-        return Err(Fail::from("read"));
+/// Whether the text is read, and printed as it stands.
+fn is_printed(alloc: Global) -> bool {
+    let Ok(cert) = read_cert(alloc, CERT.as_bytes()) else {
+        return false;
     };
-    let text = cert_bytes(alloc, &read)?;
-    assert!(rt; text.as_slice() == CERT.as_bytes());
-    let made = simplify(alloc, &read.old)?;
-    assert!(rt; made.steps.len() == 2);
-    assert!(rt; judge_cert(alloc, &read.old, &made) == Ok(()));
-    Ok(())
+    match cert_bytes(alloc, &cert) {
+        Ok(text) => text.as_slice() == CERT.as_bytes(),
+        Err(_) => false,
+    }
 }
 
-#[test]
-fn a_certificate_is_judged(rt: HostRuntime) -> Result<(), Fail> {
-    let alloc = rt.alloc();
-    let cert = read_cert(alloc, CERT.as_bytes()).ok().ok_or("read")?;
-    assert!(rt; judge_cert(alloc, &cert.old, &cert) == Ok(()));
-    let text = CERT.replace(alloc, "rw 0 0 1 3", "rw 0 0 1 4")?;
-    let other = read_cert(alloc, text.as_bytes()).ok().ok_or("changed")?;
-    assert!(rt; judge_cert(alloc, &cert.old, &other) == Err(CertFault::Step(1)));
-    Ok(())
+/// Whether a certificate of two steps is made for a group, and judged to be right.
+fn is_simplified(alloc: Global, g: &Group) -> bool {
+    match simplify(alloc, g) {
+        Ok(made) => (made.steps.len() == 2) & (judge_cert(alloc, g, &made) == Ok(())),
+        Err(_) => false,
+    }
+}
+
+/// Whether a text is read as a certificate that is judged so for a group.
+fn is_judged(alloc: Global, g: &Group, text: &str, verdict: Result<(), CertFault>) -> bool {
+    match read_cert(alloc, text.as_bytes()) {
+        Ok(cert) => judge_cert(alloc, g, &cert) == verdict,
+        Err(_) => false,
+    }
+}
+
+/// .. where its second step names another law.
+fn is_refused(alloc: Global, g: &Group) -> bool {
+    match CERT.replace(alloc, "rw 0 0 1 3", "rw 0 0 1 4") {
+        Ok(text) => is_judged(alloc, g, text.as_str(), Err(CertFault::Step(1))),
+        Err(_) => false,
+    }
 }
 
 /// The last two functions of the script of the function.
@@ -76,17 +85,47 @@ fn is_word(value: &Option<Smt>, n: u128) -> bool {
     }
 }
 
-#[test]
-fn a_script_has_the_values_of_its_function(rt: HostRuntime) -> Result<(), Fail> {
-    let alloc = rt.alloc();
-    let cert = read_cert(alloc, CERT.as_bytes()).ok().ok_or("read")?;
-    let script = first_script(alloc, &cert.old).ok_or("script")?;
-    let text = script_bytes(alloc, &script)?;
-    assert!(rt; text.as_slice().ends_with(SCRIPT_END.as_bytes()));
+/// Whether a script ends with these two functions.
+fn ends_so(alloc: Global, script: &Script) -> bool {
+    match script_bytes(alloc, script) {
+        Ok(text) => text.as_slice().ends_with(SCRIPT_END.as_bytes()),
+        Err(_) => false,
+    }
+}
+
+/// Whether its function of the first result gives 5 for 2 and 3.
+fn gives_sum(alloc: Global, script: &Script) -> bool {
     let mut inputs = List::new(alloc);
-    inputs.push(Smt::Bits(64, 2))?;
-    inputs.push(Smt::Bits(64, 3))?;
-    let sum = value_of(alloc, &script, b"f0_w0", &inputs)?;
-    assert!(rt; is_word(&sum, 5));
-    Ok(())
+    let _first = inputs.push(Smt::Bits(64, 2));
+    let _second = inputs.push(Smt::Bits(64, 3));
+    match value_of(alloc, script, b"f0_w0", &inputs) {
+        Ok(sum) => is_word(&sum, 5),
+        Err(_) => false,
+    }
+}
+
+/// Whether a group has such a script.
+fn has_script(alloc: Global, g: &Group) -> bool {
+    match first_script(alloc, g) {
+        Some(script) => ends_so(alloc, &script) & gives_sum(alloc, &script),
+        None => false,
+    }
+}
+
+/// Whether the group of the text is simplified, judged and exported as it should be.
+fn group_is_taken(alloc: Global) -> bool {
+    match read_cert(alloc, CERT.as_bytes()) {
+        Ok(cert) => {
+            let g = &cert.old;
+            let is_taken = is_judged(alloc, g, CERT, Ok(())) & is_refused(alloc, g);
+            is_taken & is_simplified(alloc, g) & has_script(alloc, g)
+        }
+        Err(_) => false,
+    }
+}
+
+#[test]
+fn certificates_are_made_and_judged_and_scripts_have_values(rt: HostRuntime) {
+    assert!(rt; is_printed(rt.alloc()));
+    assert!(rt; group_is_taken(rt.alloc()));
 }
