@@ -25,7 +25,7 @@ impl Model for EmptyLines {
     ghost view = { λ l. (string_bytes l.name, l.count) };
 }
 
-/// A shelf in memory, and perhaps a name that holds empty lines, for which no memory is taken, until
+/// A shelf in memory, and perhaps a name that holds empty lines, for which no memory is taken until
 /// something is written to it. Reads of these lines aren't counted among the calls, so none fails.
 #[derive(Drop)]
 pub struct LongShelf {
