@@ -70,7 +70,7 @@ impl Files {
         Ok(())
     }
 
-    /// Lets the name hold so many empty lines where it is missing, in place of another one that did.
+    /// Lets a name that is missing hold so many empty lines, in place of another one that did.
     pub fn set_long(&mut self, name: &str, count: u64) -> Result<()> {
         let name = String::from_str(self.alloc, name)?;
         self.long = Some(EmptyLines { name, count });
