@@ -86,6 +86,15 @@ word_gone [] i e = refl
 word_gone (y ∷ ys) zero e = absurd (cc)
 word_gone (y ∷ ys) (suc i) e = word_gone ys i e
 
+-- .. behind the first
+pub word_next : (xs : List Word) (i n : ℕ) (e : Expr) → n ≡ i + 1 → e ≡ word_or (map word_tree xs) n → e ≡ word_or (map word_tree xs) (suc i)
+word_next xs i n e next is = let after : n ≡ suc i = omega (arith, next) in is ∙ ap (word_or (map word_tree xs)) after
+
+pub word_past : (xs : List Word) (i : ℕ) → length xs ≤ i → word 0 ≡ word_or (map word_tree xs) (suc i)
+word_past [] i le = refl
+word_past (y ∷ ys) zero le = absurd (omega (arith, le))
+word_past (y ∷ ys) (suc i) le = word_past ys i (omega (arith, le))
+
 pub mem_got : (xs : List Mem) (i : ℕ) (x : Mem) → slice_get xs i ≡ Some x → mem_expr (mem_tree x) ≡ mem_or (map mem_tree xs) i
 mem_got [] i x e = absurd (cc)
 mem_got (y ∷ ys) zero x e = let same : y ≡ x = cc in λ j. mem_expr (mem_tree (sym same j))

@@ -1,6 +1,6 @@
 //! What the functions of a definition tell, as S-expressions.
 
-ghost use Rattle.std.specs.Prelude.{◌≡◌, ◌+◌, ◌∷◌, ◌↔◌, [], IfOk, IsTrue, codes, get_or, length, map, slice_get, ◌<◌};
+ghost use Rattle.std.specs.Prelude.{◌≡◌, ◌+◌, ◌∷◌, ◌↔◌, [], IfOk, IsTrue, codes, get_or, length, map, slice_get, ◌<◌, ◌≤◌, ◌^◌};
 ghost use Rattle.tailrec_lang.specs.Tree.{body_tree, exits_at, group_tree, step_tree, values_tree};
 ghost use Rattle.tailrec_lang.specs.inner.Tree.{arm_trees, end_tree};
 ghost use Rattle.tailrec_lang.specs.WellFormed.{exit_words, mems_after, words_after};
@@ -12,11 +12,12 @@ ghost use Rattle.smt_export.specs.declared.told.Told.TheVariants.{ExitNumber};
 ghost use Rattle.smt_export.specs.Told.{dom_name, mem_name};
 ghost use Rattle.smt_export.specs.Terms.{dom_expr, mem_expr};
 ghost use Rattle.smt_export.specs.Bodies.{arms_expr, body_expr, called, exit_number};
+ghost use Rattle.smt_export.specs.inner.Following.{arm_room, room};
 ghost use Rattle.smt_export.specs.inner.Steps.{arm_around, arm_by, step_expr, steps_expr};
 
 use crate::branches::branch_term;
 use crate::left::{default, exit_number, left_by, with_condition};
-use crate::results::{call_results, let_mems, let_words, next};
+use crate::results::{call_results, let_mems, let_words};
 use crate::term_trees::{cond_term, dom_term, mem_term, word_term};
 use crate::told::{Told, numbered_name};
 use crate::values::called;
@@ -44,12 +45,14 @@ pub fn body_term(
     told: Told,
     scope: Scope,
 ) -> Result<Tree, NoMemory>
+    requires words { scope.words + room (group_tree g.now) (body_tree body.now) < 2 ^ 64 }
+    requires mems { scope.mems + room (group_tree g.now) (body_tree body.now) < 2 ^ 64 }
     ensures { IfOk result (λ t.
         expr t
         ≡ body_expr (group_tree g.now) def (body_tree body.now) scope.words scope.mems told) }
 {
     let steps = body.steps.as_slice();
-    let inner = scope_after(steps, scope)?;
+    let inner = end_scope(g, body, scope);
     let end = end_term(alloc, g, def, &body.end, told, inner)?;
     steps_around(alloc, steps, told, scope, end)
 }
@@ -64,6 +67,8 @@ fn end_term(
     told: Told,
     scope: Scope,
 ) -> Result<Tree, NoMemory>
+    requires words { scope.words + room (group_tree g.now) (end_tree end.now) < 2 ^ 64 }
+    requires mems { scope.mems + room (group_tree g.now) (end_tree end.now) < 2 ^ 64 }
     ensures { IfOk result (λ t.
         expr t ≡ body_expr (group_tree g.now) def (end_tree end.now) scope.words scope.mems told) }
 {
@@ -115,6 +120,8 @@ fn arms_term(
     told: Told,
     scope: Scope,
 ) -> Result<Tree, NoMemory>
+    requires words { scope.words + arm_room (group_tree g.now) (arm_trees arms.now) < 2 ^ 64 }
+    requires mems { scope.mems + arm_room (group_tree g.now) (arm_trees arms.now) < 2 ^ 64 }
     ensures { IfOk result (λ t.
         expr t
         ≡ arms_expr (group_tree g.now) def (called callee (values_tree values.now))
@@ -126,7 +133,7 @@ fn arms_term(
     for i in 0..count {
         let k = count - 1 - i;
         let exit = exit_of(exits, k);
-        let inner = arm_scope(g, exit, scope)?;
+        let inner = arm_scope(g, exit, scope);
         let arm = body_term(alloc, g, def, &arms[k], told, inner)?;
         let last = is_last(exits, k);
         term = arm_term(alloc, g, callee, values, exit, k, last, scope, arm, term)?;
@@ -151,21 +158,15 @@ fn is_last(exits: &[Exit], k: usize) -> bool
 }
 
 /// The scope of the arm of that exit.
-fn arm_scope(g: &Group, exit: Exit, scope: Scope) -> Result<Scope, NoMemory>
-    ensures words { IfOk result (λ s. s.words ≡ scope.words + exit_words (group_tree g.now) exit) }
-    ensures mems { IfOk result (λ s. s.mems ≡ scope.mems + (group_tree g.now).mems) }
+fn arm_scope(g: &Group, exit: Exit, scope: Scope) -> Scope
+    requires words { scope.words + exit_words (group_tree g.now) exit < 2 ^ 64 }
+    requires mems { scope.mems + g.now.mems < 2 ^ 64 }
+    ensures words { result.words ≡ scope.words + exit_words (group_tree g.now) exit }
+    ensures mems { result.mems ≡ scope.mems + (group_tree g.now).mems }
 {
-    let words = sum(scope.words, results_at(g, exit))?;
-    let mems = sum(scope.mems, g.mems as usize)?;
-    Ok(Scope { words, mems })
-}
-
-fn sum(a: usize, b: usize) -> Result<usize, NoMemory>
-    ensures { IfOk result (λ c. c ≡ a + b) }
-{
-    match a.checked_add(b) {
-        Some(c) => Ok(c),
-        None => Err(NoMemory),
+    Scope {
+        words: scope.words + results_at(g, exit),
+        mems: scope.mems + g.mems as usize,
     }
 }
 
@@ -182,6 +183,8 @@ fn arm_term(
     arm: Tree,
     others: Tree,
 ) -> Result<Tree, NoMemory>
+    requires words { scope.words + exit_words (group_tree g.now) exit < 2 ^ 64 }
+    requires mems { scope.mems + g.now.mems < 2 ^ 64 }
     ensures { IfOk result (λ t.
         expr t
         ≡ arm_by last
@@ -209,6 +212,8 @@ fn arm_around(
     scope: Scope,
     arm: Tree,
 ) -> Result<Tree, NoMemory>
+    requires words { scope.words + exit_words (group_tree g.now) exit < 2 ^ 64 }
+    requires mems { scope.mems + g.now.mems < 2 ^ 64 }
     ensures { IfOk result (λ t.
         expr t
         ≡ arm_around (group_tree g.now) (called callee (values_tree values.now)) exit scope.words
@@ -219,42 +224,51 @@ fn arm_around(
     let_words(alloc, callee, values, words.as_slice(), scope.words, arm)
 }
 
+/// The scope at the end of a body.
+fn end_scope(g: &Group, body: &Body, scope: Scope) -> Scope
+    requires words { scope.words + room (group_tree g.now) (body_tree body.now) < 2 ^ 64 }
+    requires mems { scope.mems + room (group_tree g.now) (body_tree body.now) < 2 ^ 64 }
+    ensures words { result.words ≡ words_after_all (map step_tree body.now.steps) scope.words }
+    ensures mems { result.mems ≡ mems_after_all (map step_tree body.now.steps) scope.mems }
+    ensures words_fit { result.words + room (group_tree g.now) (end_tree body.now.end) < 2 ^ 64 }
+    ensures mems_fit { result.mems + room (group_tree g.now) (end_tree body.now.end) < 2 ^ 64 }
+{
+    let _group = g;
+    scope_after(body.steps.as_slice(), scope)
+}
+
 /// The scope behind steps.
-fn scope_after(steps: &[Step], scope: Scope) -> Result<Scope, NoMemory>
-    ensures words { IfOk result (λ s.
-        s.words ≡ words_after_all (map step_tree steps.now) scope.words) }
-    ensures mems { IfOk result (λ s. s.mems ≡ mems_after_all (map step_tree steps.now) scope.mems) }
+fn scope_after(steps: &[Step], scope: Scope) -> Scope
+    requires words { scope.words + length steps.now < 2 ^ 64 }
+    requires mems { scope.mems + length steps.now < 2 ^ 64 }
+    ensures words { result.words ≡ words_after_all (map step_tree steps.now) scope.words }
+    ensures mems { result.mems ≡ mems_after_all (map step_tree steps.now) scope.mems }
 {
     match steps {
-        [] => Ok(scope),
-        [first, rest @ ..] => {
-            let after = scope_behind(first, scope)?;
-            scope_after(rest, after)
-        }
+        [] => scope,
+        [first, rest @ ..] => scope_after(rest, scope_behind(first, scope)),
     }
 }
 
 /// The scope behind a step.
-fn scope_behind(step: &Step, scope: Scope) -> Result<Scope, NoMemory>
-    ensures words { IfOk result (λ s. s.words ≡ words_after (step_tree step.now) scope.words) }
-    ensures mems { IfOk result (λ s. s.mems ≡ mems_after (step_tree step.now) scope.mems) }
+fn scope_behind(step: &Step, scope: Scope) -> Scope
+    requires words { scope.words + 1 < 2 ^ 64 }
+    requires mems { scope.mems + 1 < 2 ^ 64 }
+    ensures words { result.words ≡ words_after (step_tree step.now) scope.words }
+    ensures mems { result.mems ≡ mems_after (step_tree step.now) scope.mems }
+    ensures few_words { result.words ≤ scope.words + 1 }
+    ensures few_mems { result.mems ≤ scope.mems + 1 }
 {
     match step {
-        Step::Bind(_) => {
-            let words = next(scope.words)?;
-            Ok(Scope {
-                words,
-                mems: scope.mems,
-            })
-        }
-        Step::BindMem(_) => {
-            let mems = next(scope.mems)?;
-            Ok(Scope {
-                words: scope.words,
-                mems,
-            })
-        }
-        Step::Need(_) => Ok(scope),
+        Step::Bind(_) => Scope {
+            words: scope.words + 1,
+            mems: scope.mems,
+        },
+        Step::BindMem(_) => Scope {
+            words: scope.words,
+            mems: scope.mems + 1,
+        },
+        Step::Need(_) => scope,
     }
 }
 
@@ -266,13 +280,15 @@ fn steps_around(
     scope: Scope,
     rest: Tree,
 ) -> Result<Tree, NoMemory>
+    requires words { scope.words + length steps.now < 2 ^ 64 }
+    requires mems { scope.mems + length steps.now < 2 ^ 64 }
     ensures { IfOk result (λ t.
         expr t ≡ steps_expr (map step_tree steps.now) scope.words scope.mems told (expr rest)) }
 {
     match steps {
         [] => Ok(rest),
         [first, more @ ..] => {
-            let after = scope_behind(first, scope)?;
+            let after = scope_behind(first, scope);
             let rest = steps_around(alloc, more, told, after, rest)?;
             step_around(alloc, first, told, scope, rest)
         }

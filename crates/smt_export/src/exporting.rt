@@ -8,7 +8,7 @@ ghost use Rattle.smt_export.specs.declared.exporting.ExportFault.TheVariants.{Lo
 ghost use Rattle.smt_export.specs.Reach.{IsLeastLoop, EntersAgain, ReachesByCalls};
 ghost use Rattle.smt_export.specs.Telling.{HasFuns, TellsEval};
 ghost use Rattle.group_terms.specs.Range.{GroupInRange};
-ghost use Rattle.smt_export.specs.inner.Room.{HasRoom};
+ghost use Rattle.smt_export.specs.inner.Room.{DefHasRoom, HasRoom};
 ghost use Rattle.smt_export.specs.Scripts.{def_fun, def_funs, funs_from, script};
 ghost use Rattle.smt_export.specs.inner.Reach.{AreMarks, is_marked};
 
@@ -127,7 +127,8 @@ fn script_of(g: &Group, def: usize, marks: &[bool], count: usize, funs: List<Fun
 /// The functions of operations and accesses, and of the definitions up to `def` that are marked.
 #[tactic(auto, using(crate::proofs::Lists::appended))]
 fn script_funs(alloc: Global, g: &Group, def: usize, marks: &[bool]) -> Result<List<Fun>, NoMemory>
-    requires { length marks.now ≡ def + 1 }
+    requires count { length marks.now ≡ def + 1 }
+    requires room { HasRoom (group_tree g.now) }
     ensures { IfOk result (λ funs.
         map fun_tree funs ≡ script (group_tree g.now) (is_marked def marks.now) def) }
 {
@@ -138,7 +139,8 @@ fn script_funs(alloc: Global, g: &Group, def: usize, marks: &[bool]) -> Result<L
 }
 
 fn marked_funs(alloc: Global, g: &Group, def: usize, marks: &[bool]) -> Result<List<Fun>, NoMemory>
-    requires { length marks.now ≡ def + 1 }
+    requires count { length marks.now ≡ def + 1 }
+    requires room { HasRoom (group_tree g.now) }
     ensures { IfOk result (λ funs.
         map fun_tree funs
         ≡ funs_from (group_tree g.now) (is_marked def marks.now) 0
@@ -163,7 +165,9 @@ fn is_marked(def: usize, marks: &[bool], d: usize) -> bool
 }
 
 /// The functions of a definition that is marked.
+#[tactic(auto, using(crate::proofs::Fits::room_at))]
 fn funs_where(alloc: Global, g: &Group, d: usize, mark: bool) -> Result<List<Fun>, NoMemory>
+    requires { HasRoom (group_tree g.now) }
     ensures there { IfOk result (λ funs.
         (def : DefTree)
         → slice_get (group_tree g.now).defs d ≡ Some def
@@ -181,6 +185,7 @@ fn funs_where(alloc: Global, g: &Group, d: usize, mark: bool) -> Result<List<Fun
 }
 
 fn def_funs(alloc: Global, g: &Group, d: usize, def: &Def) -> Result<List<Fun>, NoMemory>
+    requires { DefHasRoom (group_tree g.now) (def_tree def.now) }
     ensures { IfOk result (λ funs.
         map fun_tree funs ≡ def_funs (group_tree g.now) d (def_tree def.now)) }
 {
@@ -196,6 +201,7 @@ fn told_funs(
     def: &Def,
     all: &[Told],
 ) -> Result<List<Fun>, NoMemory>
+    requires { DefHasRoom (group_tree g.now) (def_tree def.now) }
     ensures { IfOk result (λ funs.
         map fun_tree funs ≡ map (def_fun (group_tree g.now) d (def_tree def.now)) all.now) }
 {
@@ -208,6 +214,7 @@ fn told_funs(
 }
 
 fn def_fun(alloc: Global, g: &Group, d: usize, def: &Def, told: Told) -> Result<Fun, NoMemory>
+    requires { DefHasRoom (group_tree g.now) (def_tree def.now) }
     ensures { IfOk result (λ f. fun_tree f ≡ def_fun (group_tree g.now) d (def_tree def.now) told) }
 {
     let scope = Scope {

@@ -1,6 +1,6 @@
 //! What is told where a definition is left.
 
-ghost use Rattle.std.specs.Prelude.{◌≡◌, IfOk, codes, map};
+ghost use Rattle.std.specs.Prelude.{◌≡◌, IfOk, codes, map, suc};
 ghost use Rattle.word_terms.specs.Tree.{mem_tree, word_tree};
 ghost use Rattle.tailrec_lang.specs.Tree.{values_tree};
 ghost use Rattle.smt_terms.specs.Expression.{is_atom};
@@ -9,7 +9,6 @@ ghost use Rattle.smt_export.specs.declared.told.Told.TheVariants.{ExitNumber};
 ghost use Rattle.smt_export.specs.Terms.{falsity};
 ghost use Rattle.smt_export.specs.Bodies.{with_condition, conjunction, default, dom_or, left_by, left_pc, left_word, mem_or, exit_number, word_or};
 
-use crate::results::next;
 use crate::term_trees::{dom_term, mem_term, word_term};
 use crate::told::Told;
 use rv_words::{List, NoMemory};
@@ -26,6 +25,18 @@ fn word_or(alloc: Global, terms: &List<Word>, i: usize) -> Result<Tree, NoMemory
         Some(t) => word_term(alloc, t),
         None => word(alloc, 0),
     }
+}
+
+/// The word of that number behind the first.
+#[tactic(auto, using(crate::proofs::Lists::word_next, crate::proofs::Lists::word_past))]
+fn word_behind(alloc: Global, terms: &List<Word>, i: usize) -> Result<Tree, NoMemory>
+    ensures { IfOk result (λ t. expr t ≡ word_or (map word_tree terms.now) (suc i)) }
+{
+    let count = terms.len();
+    if i >= count {
+        return word(alloc, 0);
+    }
+    word_or(alloc, terms, i + 1)
 }
 
 #[tactic(auto, using(crate::proofs::Lists::mem_got, crate::proofs::Lists::mem_gone))]
@@ -97,10 +108,7 @@ fn left_word(alloc: Global, exit: Option<Exit>, values: &Values, i: usize) -> Re
     match exit {
         Some(exit) => match exit {
             Exit::At(_) => word_or(alloc, &values.words, i),
-            Exit::Ret => {
-                let after = next(i)?;
-                word_or(alloc, &values.words, after)
-            }
+            Exit::Ret => word_behind(alloc, &values.words, i),
         },
         None => word(alloc, 0),
     }

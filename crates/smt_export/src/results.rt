@@ -1,6 +1,6 @@
 //! The results of a call as variables.
 
-ghost use Rattle.std.specs.Prelude.{◌≡◌, ◌+◌, IfOk, Some, length};
+ghost use Rattle.std.specs.Prelude.{◌≡◌, ◌+◌, ◌<◌, ◌^◌, IfOk, Some, length};
 ghost use Rattle.tailrec_lang.specs.Tree.{group_tree, values_tree};
 ghost use Rattle.smt_terms.specs.Views.{expr};
 ghost use Rattle.smt_terms.specs.Expression.{bound};
@@ -14,16 +14,6 @@ use rv_words::{List, NoMemory};
 use smt_terms::{Tree, bound};
 use std::alloc::Global;
 use tailrec_lang::{Exit, Group, Values};
-
-/// The number after that one.
-pub fn next(n: usize) -> Result<usize, NoMemory>
-    ensures { IfOk result (λ m. m ≡ n + 1) }
-{
-    match n.checked_add(1) {
-        Some(m) => Ok(m),
-        None => Err(NoMemory),
-    }
-}
 
 #[tactic(auto, using(crate::proofs::Lists::words_next))]
 fn words_from(alloc: Global, count: usize) -> Result<List<Told>, NoMemory>
@@ -88,14 +78,14 @@ pub fn let_words(
     n: usize,
     body: Tree,
 ) -> Result<Tree, NoMemory>
+    requires { n + length told.now < 2 ^ 64 }
     ensures { IfOk result (λ t.
         expr t ≡ let_words (called def (values_tree values.now)) told.now n (expr body)) }
 {
     match told {
         [] => Ok(body),
         [first, rest @ ..] => {
-            let after = next(n)?;
-            let body = let_words(alloc, def, values, rest, after, body)?;
+            let body = let_words(alloc, def, values, rest, n + 1, body)?;
             let name = numbered_name(alloc, b"w", n)?;
             let term = called(alloc, def, values, *first)?;
             bound(alloc, name.as_slice(), term, body)
@@ -115,15 +105,15 @@ pub fn let_mems(
     m: usize,
     body: Tree,
 ) -> Result<Tree, NoMemory>
+    requires numbers { i + count < 2 ^ 64 }
+    requires variables { m + count < 2 ^ 64 }
     ensures { IfOk result (λ t.
         expr t ≡ let_mems (called def (values_tree values.now)) i count m (expr body)) }
 {
     if count == 0 {
         return Ok(body);
     }
-    let next_mem = next(i)?;
-    let after = next(m)?;
-    let body = let_mems(alloc, def, values, next_mem, count - 1, after, body)?;
+    let body = let_mems(alloc, def, values, i + 1, count - 1, m + 1, body)?;
     let body = domain_bound(alloc, def, values, i, m, body)?;
     let name = numbered_name(alloc, b"mem", m)?;
     let term = called(alloc, def, values, Told::MemAt(i))?;
