@@ -1,5 +1,5 @@
 -- What a group of linked functions lists.
-use Rattle.std.proofs.Common.{◌≡◌, ℕ, suc, ◌+◌, ◌≤◌, Bool, true, false, ◌||◌, List, [], ◌∷◌, ◌++◌, map, length, get_or, refl, sym, ap, arith, subst, Some, ◌⊎◌, ◌-◌, ◌∙◌}
+use Rattle.std.proofs.Common.{◌≡◌, ℕ, suc, ◌+◌, ◌≤◌, Bool, true, false, ◌||◌, List, [], ◌∷◌, ◌++◌, map, length, get_or, refl, sym, ap, arith, subst, Some, ◌-◌, ◌∙◌}
 use Rattle.std.specs.Prelude.{◌↔◌}
 use Rattle.std.specs.List.{AllZip, Contains, flat_map, list_any, sum_by}
 use Rattle.std.proofs.lemmas.List.Sums.{sum_by-cons}
@@ -12,6 +12,7 @@ use Rattle.instr_axioms.specs.Terms.{has_memory}
 use Rattle.flow_graph.specs.Flow.{Next}
 use Rattle.flow_graph.specs.Walks.{Reaches}
 use Rattle.loop_forest.specs.Forest.{number_of}
+use Rattle.call_graph.specs.Calls.{CallsTo}
 use Rattle.call_graph.specs.Functions.{AreFunctions, entries_of, size_of}
 use Rattle.call_graph.specs.declared.function.Function.{Function}
 use Rattle.code_parts.specs.declared.callee.Callee.{Callee}
@@ -27,11 +28,11 @@ use Rattle.linked_group.proofs.Joining.{reached-by}
 use Rattle.linked_group.proofs.Lists.{any-of, in-map, out-map}
 use Rattle.linked_group.proofs.Contexts.{order-of, reached-of, linked-of, within-code}
 use Rattle.linked_group.proofs.Together.{entered-at-entry, members-are}
-use Rattle.decompiler.specs.Listing.{AreDefsOf, HasDefs, IsCodeIn, IsInstructionIn, IsMemberOf, IsUsedIn, UsesMemoryIn}
+use Rattle.decompiler.specs.Listing.{AreDefsOf, AreEntries, HasDefs, HasMemory, HaveDefs, IsCodeIn, IsInstructionIn, IsMemberOf, IsUsedIn, Lists, UsesMemoryIn}
 use Rattle.decompiler.proofs.CodeListed.{access_back, access_there, byte_back, byte_there, memory_by, registers_by, used_back, used_there}
 use Rattle.decompiler.proofs.Definitions.{parts-once}
 use Rattle.decompiler.proofs.PartsListed.{defs_are}
-use Rattle.call_link.specs.Listing.{AreEntries, HaveDefs, IsLinkedCode, ListsLinked}
+use Rattle.call_link.specs.Listing.{IsLinkedCode, linked_form}
 use Rattle.claims.specs.Turns.{InFirstMemory}
 
 any-in : {A : Type 0} (p : A → Bool) (xs : List A) → list_any p xs ≡ true → (x : A) × Contains xs x × (p x ≡ true)
@@ -103,9 +104,9 @@ module _ (code : Bytes) (e : ℕ) (bytes : AreBytes code) (s : LinkedGroup) (are
           (used_back true own.function.graph (reached-by (functions_of s) (some_functions) own.function own.listed) r
           (record { instr = u.instr; reached = record { at = u.reached.at; reached = own.reaches; is = u.reached.is }; stands = u.stands }))
 
-  pub memory-listed : ((s.mems ≡ 1) × UsesMemoryIn true code (IsLinkedCode code e)) ⊎ ((s.mems ≡ 0) × (UsesMemoryIn true code (IsLinkedCode code e) → ⊥))
+  pub memory-listed : HasMemory (UsesMemoryIn true code (IsLinkedCode code e)) s.mems
   memory-listed =
-      subst (λ (m : ℕ). ((m ≡ 1) × UsesMemoryIn true code (IsLinkedCode code e)) ⊎ ((m ≡ 0) × (UsesMemoryIn true code (IsLinkedCode code e) → ⊥))) (sym is.mems)
+      subst (HasMemory (UsesMemoryIn true code (IsLinkedCode code e))) (sym is.mems)
       (memory_by (load_or_store (functions_of s)) (UsesMemoryIn true code (IsLinkedCode code e)) there back)
     where
       there : load_or_store (functions_of s) ≡ true → UsesMemoryIn true code (IsLinkedCode code e)
@@ -141,7 +142,7 @@ module _ (code : Bytes) (e : ℕ) (bytes : AreBytes code) (s : LinkedGroup) (are
     all = rows-all s.functions;
   }
 
-  pub lists-linked : (name : List ℕ) → ListsLinked code e (members_of s) name (group_in s name)
+  pub lists-linked : (name : List ℕ) → Lists linked_form code e (members_of s) name (group_in s name)
   lists-linked name = record {
     named = refl;
     entry = entered-at-entry code e bytes s are is name;
@@ -157,8 +158,8 @@ module _ (code : Bytes) (e : ℕ) (bytes : AreBytes code) (s : LinkedGroup) (are
   entries-in [] = refl
   entries-in (f ∷ fs) = ap (λ (xs : List ℕ). f.function.now.entry ∷ xs) (entries-in fs)
 
-  pub entries-listed : AreEntries code e (map (λ (m : Member). m.at) (members_of s))
-  entries-listed = subst (AreEntries code e) (sym (entries-in s.functions)) (record {
+  pub entries-listed : AreEntries (CallsTo code) e (map (λ (m : Member). m.at) (members_of s))
+  entries-listed = subst (AreEntries (CallsTo code) e) (sym (entries-in s.functions)) (record {
     functions = are.functions;
     before = λ j k l m calls. let long = length-map (λ (f : Function). f.entry) (functions_of s) in are.before j k (omega (arith, l, long)) (omega (arith, m, long)) calls;
     last = ap (λ (n : ℕ). get_or (entries_of (functions_of s)) (n - 1) 0) (length-map (λ (f : Function). f.entry) (functions_of s)) ∙ are.last;

@@ -1,6 +1,6 @@
 -- The item of a name, of all functions that calls lead to from its address.
-use Rattle.std.proofs.Common.{◌≡◌, ℕ, suc, ◌+◌, ◌-◌, ◌≤◌, Bool, true, false, cond, List, [], ◌∷◌, ◌++◌, map, length, get_or, Result, Ok, Err, refl, sym, arith, subst, ◌∙◌}
-use Rattle.std.specs.List.{AllByRecursion, Contains}
+use Rattle.std.proofs.Common.{◌≡◌, ℕ, suc, ◌-◌, ◌≤◌, Bool, true, false, cond, List, [], ◌∷◌, ◌++◌, map, length, get_or, take, Result, Ok, Err, refl, sym, arith, subst, ◌∙◌}
+use Rattle.std.specs.List.{AllByRecursion, AllZip, Contains}
 use Rattle.rv_words.specs.Bytes.{AreBytes}
 use Rattle.elf_image.specs.Image.{code_of_file}
 use Rattle.elf_image.specs.declared.symbol.NameFault.{NameFault}
@@ -19,6 +19,7 @@ use Rattle.call_graph.specs.Causes.{IsCallGraphFault, IsCause}
 use Rattle.call_graph.specs.Functions.{AreFunctions}
 use Rattle.call_graph.specs.declared.fault.CallGraphFault.{CallGraphFault}
 use Rattle.call_graph.specs.declared.fault.CallGraphFault.TheVariants as graph
+use Rattle.call_graph.specs.declared.fault.LinkWhy.{LinkWhy}
 use Rattle.call_graph.specs.declared.fault.LinkWhy.TheVariants.{Outside}
 use Rattle.call_graph.proofs.OneAnswer.{no_cause}
 use Rattle.code_parts.specs.Bodies.{part_def}
@@ -35,14 +36,16 @@ use Rattle.path_walk.specs.declared.item.Item.{Item}
 use Rattle.path_walk.specs.Closed.{AreClosedIn}
 use Rattle.path_walk.specs.Linked.{IsLinkedItem}
 use Rattle.path_walk.proofs.PartLimits.{part-printed}
-use Rattle.decompiler.specs.Listing.{AreDefsOf}
+use Rattle.decompiler.specs.Listing.{AreDefsOf, IsItemBy, Lists}
 use Rattle.decompiler.specs.Names.{StandsFor}
 use Rattle.decompiler.specs.inner.Functions.{outside_of}
 use Rattle.decompiler.proofs.CodeListed.{ranges_small}
 use Rattle.decompiler.proofs.Fragment.{stands_once}
-use Rattle.call_link.specs.Faults.{CanBeLinked, IsLinkFirst, Missing, Doubled, InFunctions}
-use Rattle.call_link.specs.Listing.{IsLinkedItemFor, ListsLinked}
-use Rattle.call_link.specs.inner.Functions.{IsNoLinkedItem}
+use Rattle.decompiler.proofs.InOrder.{IsListed, first-fault}
+use Rattle.call_link.specs.Faults.{IsLinkFirst, Missing, Doubled, InFunctions}
+use Rattle.call_link.specs.Listing.{IsLinkedItemFor, linked_form}
+use Rattle.call_link.specs.Refusals.{IsLinkFaultOf}
+use Rattle.call_link.specs.inner.Functions.{IsNoLinkedItem, refusal}
 use Rattle.call_link.proofs.InFunctions.{defs-made, entries-listed, lists-linked, sizes-listed}
 use Rattle.group_text.specs.declared.version.Version.TheVariants.{Three}
 
@@ -64,12 +67,18 @@ same : (e a : ℕ) (v w : Result ℕ NameFault) → v ≡ Ok e → w ≡ Ok a �
 same e a v w p q r = cc
 
 -- a name whose functions are linked has no fault
-pub can-be-linked : (file name : List ℕ) (e : ℕ) (s : LinkedGroup) → StandsFor file name (Ok e) → AreFunctions (code_of_file file) e (functions_of s) → CanBeLinked file name
+pub can-be-linked : (file name : List ℕ) (e : ℕ) (s : LinkedGroup) → StandsFor file name (Ok e) → AreFunctions (code_of_file file) e (functions_of s) → (why : LinkWhy) → IsLinkFirst file name why → ⊥
 can-be-linked file name e s stands are _ (Missing t) = other e name_fault.NoSuch (Ok e) (Err name_fault.NoSuch) refl refl (stands_once file name (Ok e) (Err name_fault.NoSuch) stands t)
 can-be-linked file name e s stands are _ (Doubled {a = a} {b = b} t) = other e (name_fault.Ambiguous a b) (Ok e) (Err (name_fault.Ambiguous a b)) refl refl (stands_once file name (Ok e) (Err (name_fault.Ambiguous a b)) stands t)
 can-be-linked file name e s stands are why (InFunctions {e = d} t cause) =
     let one : d ≡ e = same d e (Ok d) (Ok e) refl refl (stands_once file name (Ok d) (Ok e) t stands) in
     no_cause (code_of_file file) e (functions_of s) why are (subst (λ (x : ℕ). IsCause (code_of_file file) x why) one cause)
+
+-- the first name without an item is refused
+pub none-linked-listed : (file : List ℕ) (names : List (List ℕ)) (i : ℕ) (name : List ℕ) (items : List Item) → IsListed names i name → AllZip (IsItemBy linked_form file) (take i names) items
+    → (why : CallGraphFault) → IsNoLinkedItem file name why → IsLinkFaultOf file names (refusal i why)
+none-linked-listed file names i name items at before (graph.Refused why) none = first-fault linked_form file names i name items at before why none
+none-linked-listed file names i name items at before graph.NoMemory none = tt
 
 -- ---- the item
 
@@ -129,7 +138,7 @@ linked-is file name e s item stands named bytes are group is = record {
   functions = members_of s;
   are = entries-listed (code_of_file file) e bytes s are group;
   reached = is.reached ∙ sizes-listed (code_of_file file) e bytes s are group;
-  lists = subst (ListsLinked (code_of_file file) e (members_of s) name) (sym is.group) (lists-linked (code_of_file file) e bytes s are group name);
+  lists = subst (Lists linked_form (code_of_file file) e (members_of s) name) (sym is.group) (lists-linked (code_of_file file) e bytes s are group name);
   made = subst (AreDefsOf true InFirstMemory (code_of_file file) (members_of s)) (sym is.group) (defs-made (code_of_file file) e bytes s are group name);
   accepted = subst (λ (t : GroupTree). IsAcceptedBy IsSteered file (record { group = t; lines = map line_tree item.lines })) (sym is.group)
       (accepted-linked file name e bytes s are group (map line_tree item.lines) (subst (λ (t : GroupTree). AreClosedIn Three t (map line_tree item.lines)) is.group is.lines));

@@ -1,3 +1,2 @@
 pub mod InFunctions
 pub mod Items
-pub mod LinkedAccepted

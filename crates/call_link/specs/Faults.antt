@@ -14,7 +14,3 @@ pub data IsLinkFirst (file name : List ℕ) : LinkWhy → Type 0 where
   Missing : StandsFor file name (Err name_fault.NoSuch) → IsLinkFirst file name (Outside NoSuch)
   Doubled : {a b : ℕ} → StandsFor file name (Err (name_fault.Ambiguous a b)) → IsLinkFirst file name (Outside (Ambiguous a b))
   InFunctions : {e : ℕ} {why : LinkWhy} → StandsFor file name (Ok e) → IsCause (code_of_file file) e why → IsLinkFirst file name why
-
--- the name has no fault
-abbrev pub CanBeLinked : List ℕ → List ℕ → Type 0
-CanBeLinked file name = (why : LinkWhy) → IsLinkFirst file name why → ⊥

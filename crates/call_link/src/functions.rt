@@ -5,7 +5,8 @@ ghost use Rattle.elf_image.specs.Image.{code_in, image_of};
 ghost use Rattle.group_text.specs.Limits.{IsName};
 ghost use Rattle.call_graph.specs.Causes.{IsCallGraphFault};
 ghost use Rattle.decompiler.specs.Names.{StandsFor};
-ghost use Rattle.call_link.specs.Listing.{AreLinkedItemsFor, IsLinkedItemFor};
+ghost use Rattle.decompiler.specs.Listing.{AreItemsBy};
+ghost use Rattle.call_link.specs.Listing.{IsLinkedItemFor, linked_form};
 ghost use Rattle.call_link.specs.Refusals.{IsLinkFaultOf};
 ghost use Rattle.call_link.specs.inner.Functions.{IsNoLinkedItem, refusal};
 
@@ -24,7 +25,7 @@ pub fn link(alloc: Global, image: &Image, names: &List<Text>) -> Result<Proof, L
     requires { All IsName names.now }
     ensures items { (file : Items ℕ)
         → image.now ≡ image_of file
-        → IfOk result (AreLinkedItemsFor file names.now) }
+        → IfOk result (AreItemsBy linked_form file names.now) }
     ensures refused { (file : Items ℕ)
         → image.now ≡ image_of file
         → IfErr result (IsLinkFaultOf file names.now) }

@@ -7,17 +7,17 @@ ghost use Rattle.group_text.specs.Version.{version_3};
 ghost use Rattle.proof_text.specs.Proofs.{AreProofsIn};
 ghost use Rattle.further_rules.specs.Rules.{IsSteered};
 ghost use Rattle.checker.specs.Accepts.{AcceptsBy};
-ghost use Rattle.decompiler.specs.Listing.{proofs_of};
-ghost use Rattle.call_link.specs.Listing.{AreLinkedItemsFor};
+ghost use Rattle.decompiler.specs.Listing.{AreItemsBy, proofs_of};
+ghost use Rattle.call_link.specs.Listing.{linked_form};
 ghost use Rattle.path_walk.specs.declared.proof.Proof.{Proof as TheProof};
 
 /// Items for names of a file that can be read are accepted for it, and have a text.
 pub fn law_of_linked_items()
     ensures accepted { (file : List ℕ) (names : List (List ℕ)) (p : TheProof)
         → IsReadable file
-        → AreLinkedItemsFor file names p
+        → AreItemsBy linked_form file names p
         → AcceptsBy IsSteered file (proofs_of p) }
     ensures text { (file : List ℕ) (names : List (List ℕ)) (p : TheProof)
-        → AreLinkedItemsFor file names p
+        → AreItemsBy linked_form file names p
         → AreProofsIn version_3 (proofs_of p) }
 {}

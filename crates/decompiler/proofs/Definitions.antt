@@ -5,9 +5,10 @@ use Rattle.std.specs.List.{Contains}
 use Rattle.std.proofs.lemmas.Option.{slice_get-get_or}
 use Rattle.rv_words.specs.Bytes.{Bytes}
 use Rattle.rv_decode.specs.declared.instruction.Instr.TheVariants.{Ebreak}
-use Rattle.tailrec_lang.specs.Tree.{GroupTree}
+use Rattle.tailrec_lang.specs.Tree.{DefTree, GroupTree}
 use Rattle.flow_graph.specs.Flow.{called_by}
 use Rattle.flow_graph.specs.Graph.{GraphOf, IsGraphOf}
+use Rattle.flow_graph.specs.Walks.{Reaches, Leave, Stop}
 use Rattle.flow_graph.proofs.FlowLemmas.{is_flow}
 use Rattle.flow_graph.proofs.InstructionLemmas.{graph_stands}
 use Rattle.loop_forest.specs.Forest.{ForestOf, IsForestOf, number_of}
@@ -18,7 +19,7 @@ use Rattle.code_parts.specs.Members.{Member, callee_at}
 use Rattle.code_parts.specs.Order.{AreParts}
 use Rattle.code_parts.proofs.FlowMade.{uncalled-of}
 use Rattle.code_parts.proofs.FlowOrder.{part-at}
-use Rattle.decompiler.specs.Listing.{AreDefsAlone, AreDefsOf, IsMemberOf}
+use Rattle.decompiler.specs.Listing.{AreDefsOf, AreEntries, HasDefs, HaveDefs, IsMemberOf}
 use Rattle.decompiler.proofs.PartsListed.{append_none}
 
 -- parts that are ordered stand once
@@ -34,8 +35,8 @@ uncalled code e g graph n node =
 
 pub defs_alone : (Uses : ℕ → ℕ → Type 0) (code : Bytes) (e : ℕ) (g : GraphOf) (f : ForestOf) (s : Context) (group : GroupTree) → IsGraphOf false code e g → IsForestOf g f
     → AreParts (flow_of g f s) (number_of f) s.parts → s.base ≡ 0 → s.regs ≡ group.regs → s.mems ≡ group.mems → ((n : ℕ) → n < length g.addrs → Uses (get_or g.addrs n 0) (s.uses (get_or g.addrs n 0)))
-    → group.defs ≡ map (part_def (flow_of g f s)) s.parts → AreDefsAlone Uses code e g group
-defs_alone Uses code e g f s group graph forest order base regs mems uses defs = (f, s, all)
+    → group.defs ≡ map (part_def (flow_of g f s)) s.parts → AreDefsOf false Uses code (record { at = e; graph = g; forest = f; context = s } ∷ []) group
+defs_alone Uses code e g f s group graph forest order base regs mems uses defs = all
   where
     own : Member
     own = record { at = e; graph = g; forest = f; context = s }
@@ -55,3 +56,29 @@ defs_alone Uses code e g f s group graph forest order base regs mems uses defs =
           → (y : Member) × Contains (own ∷ []) y × (y.at ≡ t) × (m.context.functions t ≡ callee_at y)) (only m c) (λ node calls. absurd (let none = sym (uncalled code e g graph n node) ∙ calls in cc));
       defs = defs ∙ sym (append_none (map (part_def (flow_of g f s)) s.parts));
     }
+
+-- ---- a function alone
+
+-- .. is the only one of its functions
+pub entry-alone : (e : ℕ) → AreEntries (λ a b. ⊥) e (e ∷ [])
+entry-alone e = record {
+  functions = record {
+    reached = λ x c. subst (λ (y : ℕ). Reaches (λ a b. ⊥) e y) (only x c) Stop;
+    all = λ x way. subst (λ (y : ℕ). Contains (e ∷ []) y) (stays x way) (0, omega arith, refl);
+    different = λ j k lt within. absurd (omega (arith, lt, within));
+  };
+  before = λ j k low high calls. absurd calls;
+  last = refl;
+}
+  where
+    only : (x : ℕ) → Contains (e ∷ []) x → e ≡ x
+    only x (zero, lt, at) = at
+    only x (suc k, lt, at) = absurd (omega (arith, lt))
+
+    stays : (x : ℕ) → Reaches (λ a b. ⊥) e x → e ≡ x
+    stays _ Stop = refl
+    stays x (Leave any calls way) = absurd calls
+
+-- .. and has one definition for each of its parts
+pub defs-of-one : (m : Member) (defs : List DefTree) → HasDefs m.graph defs → HaveDefs (m ∷ []) defs
+defs-of-one m defs has = record { rows = defs ∷ []; each = (has, tt); all = sym (append_none defs) }

@@ -17,7 +17,9 @@ use Rattle.flow_graph.specs.Flow.{Next}
 use Rattle.loop_forest.proofs.AddressLemmas.{code_in_post_order, shows_code}
 use Rattle.loop_forest.proofs.OneForest.{no_many}
 use Rattle.decompiler.specs.Names.{StandsFor}
-use Rattle.decompiler.specs.Faults.{IsFirst, IsInFragment, Missing, Doubled, InCode, InCycle, InLoop}
+use Rattle.call_graph.specs.declared.fault.LinkWhy.{LinkWhy}
+use Rattle.call_graph.specs.declared.fault.LinkWhy.TheVariants as link
+use Rattle.decompiler.specs.Faults.{IsFaultAlone, IsFirst, Missing, Doubled, InCode, InCycle, InLoop}
 use Rattle.decompiler.specs.inner.Functions.{IsNoFunction, IsNoItem, outside_of}
 use Rattle.flow_graph.specs.declared.outside.FlowFault.{FlowFault}
 use Rattle.flow_graph.specs.declared.outside.FlowFault.TheVariants as fault
@@ -55,20 +57,24 @@ first_of_name file name name_fault.NoSuch s = Missing s
 first_of_name file name (name_fault.Ambiguous a b) s = Doubled s
 
 -- a function has none
-pub in_fragment : (file name : List ℕ) (e : ℕ) (g : GraphOf) (f : ForestOf) → StandsFor file name (Ok e) → IsGraphOf false (code_of_file file) e g → IsForestOf g f → IsInFragment file name
-in_fragment file name e g f s graph forest why (Missing t) = found-or e name_fault.NoSuch (Ok e) (Err name_fault.NoSuch) refl refl (stands_once file name (Ok e) (Err name_fault.NoSuch) s t)
-in_fragment file name e g f s graph forest why (Doubled {a = a} {b = b} t) = found-or e (name_fault.Ambiguous a b) (Ok e) (Err (name_fault.Ambiguous a b)) refl refl (stands_once file name (Ok e) (Err (name_fault.Ambiguous a b)) s t)
-in_fragment file name e g f s graph forest why (InCode {e = d} t fault) =
+no-first : (file name : List ℕ) (e : ℕ) (g : GraphOf) (f : ForestOf) → StandsFor file name (Ok e) → IsGraphOf false (code_of_file file) e g → IsForestOf g f → (why : Outside) → IsFirst file name why → ⊥
+no-first file name e g f s graph forest why (Missing t) = found-or e name_fault.NoSuch (Ok e) (Err name_fault.NoSuch) refl refl (stands_once file name (Ok e) (Err name_fault.NoSuch) s t)
+no-first file name e g f s graph forest why (Doubled {a = a} {b = b} t) = found-or e (name_fault.Ambiguous a b) (Ok e) (Err (name_fault.Ambiguous a b)) refl refl (stands_once file name (Ok e) (Err (name_fault.Ambiguous a b)) s t)
+no-first file name e g f s graph forest why (InCode {e = d} t fault) =
     let same : d ≡ e = found d e (Ok d) (Ok e) refl refl (stands_once file name (Ok d) (Ok e) t s) in
     graph_or_fault false (code_of_file file) e g why graph (subst (λ (x : ℕ). IsFault false (code_of_file file) x why) same fault)
-in_fragment file name e g f s graph forest why (InCycle {e = d} {cycle = c} {first = x} {second = y} h t other shows) =
+no-first file name e g f s graph forest why (InCycle {e = d} {cycle = c} {first = x} {second = y} h t other shows) =
     let same : d ≡ e = found d e (Ok d) (Ok e) refl refl (stands_once file name (Ok d) (Ok e) t s) in
     code_in_post_order false (code_of_file file) e g (number_of f) graph forest.in_post_order
     (subst (λ (z : ℕ). HasTwo (Next false (code_of_file file)) z) same (record { cycle = c; first = x; second = y; shows = shows }))
-in_fragment file name e g f s graph forest why (InLoop {e = d} {a = a} h t other many) =
+no-first file name e g f s graph forest why (InLoop {e = d} {a = a} h t other many) =
     let same : d ≡ e = found d e (Ok d) (Ok e) refl refl (stands_once file name (Ok d) (Ok e) t s) in
     let one : h ≡ g = one_graph false (code_of_file file) e h g (subst (λ (z : ℕ). IsGraphOf false (code_of_file file) z h) same other) graph in
     no_many g f a forest (subst (λ (z : GraphOf). IsMany z a) one many)
+
+pub in_fragment : (file name : List ℕ) (e : ℕ) (g : GraphOf) (f : ForestOf) → StandsFor file name (Ok e) → IsGraphOf false (code_of_file file) e g → IsForestOf g f → (why : LinkWhy) → IsFaultAlone file name why → ⊥
+in_fragment file name e g f s graph forest (link.Outside why) h = no-first file name e g f s graph forest why h
+in_fragment file name e g f s graph forest (link.Recursive a) h = h
 
 pub none_at : (file name : List ℕ) (e : ℕ) (why : FlowFault) → StandsFor file name (Ok e) → IsNoFunction (code_of_file file) e why → IsNoItem file name why
 none_at file name e (fault.Outside why) s h = first_at file name e why s h

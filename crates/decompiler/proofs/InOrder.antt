@@ -1,5 +1,5 @@
 -- Items for names in order, one after the other.
-use Rattle.std.proofs.Common.{◌≡◌, ℕ, zero, suc, ◌+◌, ◌<◌, List, [], ◌∷◌, ◌++◌, length, get_or, take, sym, subst, arith, Some}
+use Rattle.std.proofs.Common.{◌≡◌, ℕ, zero, suc, ◌+◌, ◌<◌, List, [], ◌∷◌, ◌++◌, length, get_or, take, sym, ap, subst, ◌∙◌, arith, Some}
 use Rattle.std.proofs.lemmas.List.{take_more}
 use Rattle.std.proofs.lemmas.Option.{slice_get-get_or}
 use Rattle.std.specs.Prelude.{slice_get}
@@ -8,9 +8,11 @@ use Rattle.path_walk.specs.declared.item.Item.{Item}
 use Rattle.flow_graph.specs.declared.outside.FlowFault.{FlowFault}
 use Rattle.flow_graph.specs.declared.outside.FlowFault.TheVariants as fault
 use Rattle.flow_graph.specs.declared.outside.Outside.{Outside}
+use Rattle.call_graph.specs.declared.fault.LinkWhy.{LinkWhy}
+use Rattle.call_graph.specs.declared.fault.LinkWhy.TheVariants as link
 use Rattle.decompiler.specs.Faults.{IsFirst}
-use Rattle.decompiler.specs.Listing.{IsFirstWith, IsItemFor}
-use Rattle.decompiler.specs.Refusals.{IsFaultOf}
+use Rattle.decompiler.specs.Listing.{IsItemBy, IsRefusedBy, ItemForm}
+use Rattle.decompiler.specs.Refusals.{IsFaultBy}
 use Rattle.decompiler.specs.inner.Functions.{IsNoItem, refusal}
 
 zip_join : {A B : Type 0} (R : A → B → Type 0) (xs : List A) (ys : List B) (x : A) (y : B) → AllZip R xs ys → R x y → AllZip R (xs ++ x ∷ []) (ys ++ y ∷ [])
@@ -29,18 +31,31 @@ zip_there R (w ∷ xs) (suc i) [] k x h lt e = absurd h
 zip_there R (w ∷ xs) (suc i) (z ∷ ys) zero x h lt e = let same : w ≡ x = cc in (z, subst (λ v. R v z) same h.0)
 zip_there R (w ∷ xs) (suc i) (z ∷ ys) (suc k) x h lt e = zip_there R xs i ys k x h.1 (omega (arith, lt)) e
 
--- the first name with a fault
-pub first_with : (Fault : Type 0) (HasFault : List ℕ → Fault → Type 0) (R : List ℕ → Item → Type 0) (names : List (List ℕ)) (i : ℕ) (d : List ℕ) (items : List Item) (why : Fault) → i < length names → AllZip R (take i names) items
-    → HasFault (get_or names i d) why → IsFirstWith Fault HasFault (λ name. (item : Item) × R name item) names i why
-first_with Fault HasFault R names i d items why lt h none = record {
-  name = get_or names i d;
-  at = slice_get-get_or names i d lt;
-  first = none;
-  before = λ k other low e. zip_there R names i items k other h low e;
-}
+-- ---- names in a loop
 
--- the first name without an item is refused
-pub refused : (file : List ℕ) (names : List (List ℕ)) (i : ℕ) (d : List ℕ) (items : List Item) (why : FlowFault) → i < length names → AllZip (IsItemFor file) (take i names) items → IsNoItem file (get_or names i d) why →
-    IsFaultOf file names (refusal i why)
-refused file names i d items (fault.Outside why) lt h none = first_with Outside (IsFirst file) (IsItemFor file) names i d items why lt h none
-refused file names i d items fault.NoMemory lt h none = tt
+-- the name of that number, taken out of a slice of the names
+abbrev pub IsListed : List (List ℕ) → ℕ → List ℕ → Type 0
+IsListed names i name = (i < length names) × (name ≡ get_or names i name)
+
+pub listed-at : (all names : List (List ℕ)) (i : ℕ) (name : List ℕ) → all ≡ names → i < length all → name ≡ get_or all i name → IsListed names i name
+listed-at all names i name same lt is = (subst (λ (ns : List (List ℕ)). i < length ns) same lt, is ∙ ap (λ (ns : List (List ℕ)). get_or ns i name) same)
+
+module _ (form : ItemForm) (file : List ℕ) (names : List (List ℕ)) (i : ℕ) (name : List ℕ) (items : List Item) (at : IsListed names i name) (before : AllZip (IsItemBy form file) (take i names) items) where
+  pub items-more : (item : Item) (new : List Item) → IsItemBy form file name item → new ≡ items ++ item ∷ [] → AllZip (IsItemBy form file) (take (i + 1) names) new
+  items-more item new is more =
+      subst (λ (xs : List Item). AllZip (IsItemBy form file) (take (i + 1) names) xs) (sym more)
+      (zip_more (IsItemBy form file) names i name items item at.0 before (subst (λ (n : List ℕ). IsItemBy form file n item) at.1 is))
+
+  -- the first name with a fault
+  pub first-fault : (why : LinkWhy) → form.IsFirst file name why → IsRefusedBy form file names i why
+  first-fault why first = record {
+    name = name;
+    at = slice_get-get_or names i name at.0 ∙ ap Some (sym at.1);
+    first = first;
+    before = λ k other low e. zip_there (IsItemBy form file) names i items k other before low e;
+  }
+
+  -- .. where functions have the faults of one alone
+  pub none-listed : ((why : Outside) → IsFirst file name why → form.IsFirst file name (link.Outside why)) → (why : FlowFault) → IsNoItem file name why → IsFaultBy form file names (refusal i why)
+  none-listed so (fault.Outside why) none = first-fault (link.Outside why) (so why none)
+  none-listed so fault.NoMemory none = tt

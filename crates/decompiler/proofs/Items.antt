@@ -1,5 +1,5 @@
 -- The item of a name: what the group and the lines of a function are for its file.
-use Rattle.std.proofs.Common.{◌≡◌, ℕ, ◌-◌, List, map, length, Ok, refl, sym, subst, arith, false}
+use Rattle.std.proofs.Common.{◌≡◌, ℕ, ◌-◌, List, [], ◌∷◌, map, length, Ok, refl, sym, subst, ◌∙◌, arith, false, zero-add}
 use Rattle.rv_words.specs.Bytes.{AreBytes}
 use Rattle.rv_words.specs.declared.range.Range.{Range}
 use Rattle.rv_words.specs.Ranges.{range_bytes}
@@ -10,6 +10,7 @@ use Rattle.group_text.specs.Limits.{IsGroup, IsName}
 use Rattle.proof_text.specs.Line.{LineTree, line_tree}
 use Rattle.checker.specs.Accepts.{IsAccepted}
 use Rattle.claims.specs.Exact.{FirstReturns}
+use Rattle.claims.specs.Turns.{InFirstMemory}
 use Rattle.exactness.proofs.Counts.{Returning, counts-of, exact-of}
 use Rattle.exactness.proofs.GroupOfParts.{flow-gains}
 use Rattle.flow_graph.specs.Graph.{GraphOf, IsGraphOf}
@@ -21,6 +22,7 @@ use Rattle.code_parts.specs.Flows.{AreCodeOf, HaveCode, alone, flow_of, group_of
 use Rattle.code_parts.specs.Flows as flows
 use Rattle.path_walk.specs.Closed.{AreClosedBy}
 use Rattle.code_parts.specs.Graph.{IsMade}
+use Rattle.code_parts.specs.Members.{Member}
 use Rattle.path_walk.specs.Item.{IsItemOf}
 use Rattle.code_parts.specs.Order.{AreParts}
 use Rattle.code_parts.proofs.CodeOf.{have_code}
@@ -32,9 +34,9 @@ use Rattle.path_walk.proofs.Texts.{is-group}
 use Rattle.code_parts.proofs.Groups.{group-formed}
 use Rattle.code_parts.proofs.Lists.{length-map}
 use Rattle.decompiler.specs.Names.{StandsFor}
-use Rattle.decompiler.specs.Listing.{AreDefsAlone, IsItemFor, Lists}
+use Rattle.decompiler.specs.Listing.{AreDefsOf, IsItemFor, Lists, alone_form}
 use Rattle.decompiler.proofs.CodeListed.{bytes_are, memory_is, ranges_small, registers_are}
-use Rattle.decompiler.proofs.Definitions.{defs_alone}
+use Rattle.decompiler.proofs.Definitions.{defs-of-one, defs_alone, entry-alone}
 use Rattle.decompiler.proofs.Fragment.{in_fragment}
 use Rattle.decompiler.proofs.PartsListed.{defs_are}
 
@@ -56,18 +58,22 @@ module _ (file name : List ℕ) (e : ℕ) (g : GraphOf) (f : ForestOf) (bytes : 
     made : IsMade (flow_of g f (alone g parts)) (group_of (flow_of g f (alone g parts)) name ranges parts) parts
     made = is-made (code_of_file file) e g f parts name ranges graph forest bytes have order
 
-    pub lists_it : Lists (code_of_file file) e g name (group_of (flow_of g f (alone g parts)) name ranges parts)
+    abbrev pub the_functions : List Member
+    the_functions = record { at = e; graph = g; forest = f; context = alone g parts } ∷ []
+
+    pub lists_it : Lists alone_form (code_of_file file) e the_functions name (group_of (flow_of g f (alone g parts)) name ranges parts)
     lists_it = record {
       named = refl;
       entry = lists-entry false (code_of_file file) e g f (alone g parts) graph forest order name ranges;
       bytes = bytes_are false g (record { code = code_of_file file; entry = e; bytes = bytes; is = graph }) ranges whole;
       registers = registers_are false g (record { code = code_of_file file; entry = e; bytes = bytes; is = graph });
       memory = memory_is false g (record { code = code_of_file file; entry = e; bytes = bytes; is = graph });
-      defs = defs_are false g (record { code = code_of_file file; entry = e; bytes = bytes; is = graph }) f forest (alone g parts) order;
+      defs = defs-of-one (record { at = e; graph = g; forest = f; context = alone g parts }) (map (part_def (flow_of g f (alone g parts))) parts)
+          (defs_are false g (record { code = code_of_file file; entry = e; bytes = bytes; is = graph }) f forest (alone g parts) order);
     }
 
-    pub made_it : AreDefsAlone (λ a q. q ≡ 0) (code_of_file file) e g (group_of (flow_of g f (alone g parts)) name ranges parts)
-    made_it = defs_alone (λ a q. q ≡ 0) (code_of_file file) e g f (alone g parts) (group_of (flow_of g f (alone g parts)) name ranges parts) graph forest order refl refl refl (λ n lt. refl) refl
+    pub made_it : AreDefsOf false InFirstMemory (code_of_file file) the_functions (group_of (flow_of g f (alone g parts)) name ranges parts)
+    made_it = defs_alone InFirstMemory (code_of_file file) e g f (alone g parts) (group_of (flow_of g f (alone g parts)) name ranges parts) graph forest order refl refl refl (λ n lt. refl) refl
 
     pub accepted_it : (lines : List LineTree) → AreClosedBy (group_of (flow_of g f (alone g parts)) name ranges parts) lines → IsAccepted file (record { group = group_of (flow_of g f (alone g parts)) name ranges parts; lines = lines })
     accepted_it lines closed =
@@ -93,11 +99,11 @@ item_is file name e g f item stands named bytes graph forest is = record {
   entry = e;
   stands = stands;
   inside = in_fragment file name e g f stands graph forest;
-  graph = g;
-  reach = graph;
-  reached = is.reached;
-  lists = subst (Lists (code_of_file file) e g name) (sym is.group) (lists_it file name e g f bytes graph forest is.parts is.ordered item.group.code.ranges is.code);
-  made = subst (AreDefsAlone (λ a q. q ≡ 0) (code_of_file file) e g) (sym is.group) (made_it file name e g f bytes graph forest is.parts is.ordered item.group.code.ranges is.code);
+  functions = the_functions file name e g f bytes graph forest is.parts is.ordered item.group.code.ranges is.code;
+  are = entry-alone e;
+  reached = is.reached ∙ sym (zero-add (length g.addrs));
+  lists = subst (Lists alone_form (code_of_file file) e (the_functions file name e g f bytes graph forest is.parts is.ordered item.group.code.ranges is.code) name) (sym is.group) (lists_it file name e g f bytes graph forest is.parts is.ordered item.group.code.ranges is.code);
+  made = subst (AreDefsOf false InFirstMemory (code_of_file file) (the_functions file name e g f bytes graph forest is.parts is.ordered item.group.code.ranges is.code)) (sym is.group) (made_it file name e g f bytes graph forest is.parts is.ordered item.group.code.ranges is.code);
   accepted = subst (λ (t : GroupTree). IsAccepted file (record { group = t; lines = map line_tree item.lines })) (sym is.group)
       (accepted_it file name e g f bytes graph forest is.parts is.ordered item.group.code.ranges is.code (map line_tree item.lines) (subst (λ (t : GroupTree). AreClosedBy t (map line_tree item.lines)) is.group is.lines));
   exact = exact-of FirstReturns file (group_tree item.group) gains;

@@ -7,6 +7,8 @@ use Rattle.flow_graph.specs.declared.outside.Outside.TheVariants.{NoSuch, Ambigu
 use Rattle.flow_graph.specs.Flow.{Next}
 use Rattle.flow_graph.specs.Reach.{IsFault}
 use Rattle.flow_graph.specs.Graph.{GraphOf, IsGraphOf}
+use Rattle.call_graph.specs.declared.fault.LinkWhy.{LinkWhy}
+use Rattle.call_graph.specs.declared.fault.LinkWhy.TheVariants as link
 use Rattle.loop_forest.specs.Cycles.{ShowsTwoEntries}
 use Rattle.loop_forest.specs.Forest.{IsMany}
 use Rattle.decompiler.specs.Names.{StandsFor}
@@ -21,6 +23,7 @@ pub data IsFirst (file name : List ℕ) : Outside → Type 0 where
       → ShowsTwoEntries (Next false (code_of_file file)) e cycle first second → IsFirst file name (TwoEntries cycle first second)
   InLoop : {e a : ℕ} (g : GraphOf) → StandsFor file name (Ok e) → IsGraphOf false (code_of_file file) e g → IsMany g a → IsFirst file name (ManyExits a)
 
--- the name has no fault
-abbrev pub IsInFragment : List ℕ → List ℕ → Type 0
-IsInFragment file name = (why : Outside) → IsFirst file name why → ⊥
+-- .. as one of the reasons for which functions can't be linked
+abbrev pub IsFaultAlone : List ℕ → List ℕ → LinkWhy → Type 0
+IsFaultAlone file name (link.Outside why) = IsFirst file name why
+IsFaultAlone file name (link.Recursive a) = ⊥

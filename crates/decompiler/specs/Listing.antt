@@ -1,38 +1,40 @@
 -- What the decompiler makes of a name of a file.
-use Rattle.std.specs.Prelude.{◌≡◌, ◌↔◌, ◌⊎◌, ℕ, ◌+◌, ◌<◌, ◌≤◌, Bool, if◌then◌else◌, Option, Some, None, Ok, List, [], ◌∷◌, map, length, slice_index, slice_index_or, slice_get, true, false}
-use Rattle.std.specs.List.{Contains, AllZip, list_any}
+use Rattle.std.specs.Prelude.{◌≡◌, ◌↔◌, ◌⊎◌, ℕ, ◌+◌, ◌-◌, ◌<◌, ◌≤◌, Bool, if◌then◌else◌, Option, Some, None, Ok, List, [], ◌∷◌, map, length, slice_index, slice_index_or, slice_get, true, false}
+use Rattle.std.specs.List.{Contains, AllZip, flat_map, list_any, sum_by}
 use Rattle.rv_words.specs.Bytes.{Bytes}
 use Rattle.rv_words.specs.Ranges.{range_bytes}
 use Rattle.elf_image.specs.Image.{code_of_file}
 use Rattle.rv_decode.specs.declared.instruction.Instr.{Instr}
 use Rattle.rv_decode.specs.declared.instruction.Instr.TheVariants.{Ebreak}
 use Rattle.rv_decode.specs.Registers.{sources, destination}
+use Rattle.rv_machine.specs.State.{State}
 use Rattle.tailrec_lang.specs.declared.group.Exit.{Exit}
 use Rattle.tailrec_lang.specs.declared.group.Exit.TheVariants.{At, Ret}
 use Rattle.tailrec_lang.specs.Tree.{DefTree, GroupTree, group_tree, listed_def}
 use Rattle.instr_axioms.specs.Terms.{has_memory}
 use Rattle.proof_text.specs.Line.{ProofTree, line_tree}
-use Rattle.group_text.specs.Version.{version_1}
+use Rattle.group_text.specs.Version.{Version, version_1}
 use Rattle.proof_text.specs.Proofs.{IsProofIn}
-use Rattle.checker.specs.Accepts.{IsAccepted}
-use Rattle.claims.specs.Headline.{entry_at}
+use Rattle.checker.specs.Accepts.{IsAcceptedBy}
+use Rattle.checker.specs.Instance.{FurtherRule, no_rule}
+use Rattle.claims.specs.Headline.{Region, entry_at}
 use Rattle.claims.specs.Exact.{Exact, FirstReturns}
-use Rattle.claims.specs.Turns.{CountsSteps}
+use Rattle.claims.specs.Turns.{CountsSteps, InFirstMemory}
 use Rattle.flow_graph.specs.Flow.{Next, called_by, length_in, look, is_return}
+use Rattle.flow_graph.specs.Reach.{IsReach}
 use Rattle.flow_graph.specs.Walks.{Reaches}
 use Rattle.flow_graph.specs.Graph.{GraphOf, HasEdge, IsGraphOf, IsRising}
-use Rattle.flow_graph.specs.declared.outside.Outside.{Outside}
 use Rattle.loop_forest.specs.Loops.{IsHead, IsExit}
 use Rattle.loop_forest.specs.Regions.{IsAround}
 use Rattle.loop_forest.specs.Cuts.{IsCut}
-use Rattle.loop_forest.specs.Forest.{ForestOf, IsForestOf, incoming}
+use Rattle.loop_forest.specs.Forest.{IsForestOf, incoming}
+use Rattle.call_graph.specs.declared.fault.LinkWhy.{LinkWhy}
 use Rattle.code_parts.specs.declared.part.Part.{Part}
-use Rattle.code_parts.specs.Flows.{Context}
 use Rattle.code_parts.specs.Graph.{IsPart}
 use Rattle.code_parts.specs.Members.{AreBased, Member, callee_at, defs_of, flow_at}
 use Rattle.path_walk.specs.declared.item.Item.{Item}
 use Rattle.decompiler.specs.Names.{StandsFor}
-use Rattle.decompiler.specs.Faults.{IsFirst, IsInFragment}
+use Rattle.decompiler.specs.Faults.{IsFaultAlone}
 use Rattle.path_walk.specs.declared.proof.Proof.{Proof}
 
 -- an item as a group with the lines of its proof
@@ -70,17 +72,6 @@ pub record UsesMemoryIn (linked : Bool) (code : Bytes) (In : ℕ → Type 0) : T
   pub instr : Instr
   pub reached : IsInstructionIn linked code In instr
   pub uses : has_memory instr ≡ true
-
--- ---- .. that are reached from e, in a function alone
-
-abbrev pub IsCodeOf : Bytes → ℕ → ℕ → Type 0
-IsCodeOf code e a = IsCodeIn code (Reaches (Next false code) e) a
-
-abbrev pub IsUsed : Bytes → ℕ → ℕ → Type 0
-IsUsed code e r = IsUsedIn false code (Reaches (Next false code) e) r
-
-abbrev pub UsesMemory : Bytes → ℕ → Type 0
-UsesMemory code e = UsesMemoryIn false code (Reaches (Next false code) e)
 
 -- ---- its parts
 
@@ -150,58 +141,97 @@ pub record AreDefsOf (linked : Bool) (Uses : ℕ → ℕ → Type 0) (code : Byt
       → (y : Member) × Contains ms y × (y.at ≡ t) × (m.context.functions t ≡ callee_at y)
   pub defs : g.defs ≡ defs_of ms
 
--- .. of a function alone, with that graph
-abbrev pub AreDefsAlone : (ℕ → ℕ → Type 0) → Bytes → ℕ → GraphOf → GroupTree → Type 0
-AreDefsAlone Uses code e graph g = (f : ForestOf) × (s : Context) × AreDefsOf false Uses code (record { at = e; graph = graph; forest = f; context = s } ∷ []) g
+-- one definition for each part of each of these functions, those of one function after those of another
+pub record HaveDefs (ms : List Member) (defs : List DefTree) : Type 0 where
+  pub rows : List (List DefTree)
+  pub each : AllZip (λ m row. HasDefs m.graph row) ms rows
+  pub all : defs ≡ flat_map (λ (row : List DefTree). row) rows
 
--- ---- what is listed
+-- The entries of the functions to which calls lead from the one at e, each once. What a function calls stands before it, and the one at e last.
+pub record AreEntries (Calls : ℕ → ℕ → Type 0) (e : ℕ) (entries : List ℕ) : Type 0 where
+  pub functions : IsReach Calls e entries
+  pub before : (j k : ℕ) → j < length entries → k < length entries → Calls (slice_index entries k) (slice_index entries j) → j < k
+  pub last : slice_index entries (length entries - 1) ≡ e
 
--- a memory exactly where the code that is reached from e loads or stores
-abbrev pub HasMemory : Bytes → ℕ → ℕ → Type 0
-HasMemory code e mems = ((mems ≡ 1) × UsesMemory code e) ⊎ ((mems ≡ 0) × (UsesMemory code e → ⊥))
+-- ---- items
+
+-- In which form functions are decompiled: alone, with those that they call, or with a memory for the stack.
+pub record ItemForm : Type 1 where
+  -- whether a function goes on behind its calls, and which function, by its entry, calls which
+  pub linked : Bool
+  pub Calls : Bytes → ℕ → ℕ → Type 0
+  -- the first fault of a name of a file
+  pub IsFirst : List ℕ → List ℕ → LinkWhy → Type 0
+  -- the code of the function entered at e: the addresses that are reached
+  pub Reached : Bytes → ℕ → ℕ → Type 0
+  -- how many memories there are, where this says whether an instruction loads or stores; and which of them the instruction at an address has
+  pub HasMemories : Type 0 → ℕ → Type 0
+  pub Uses : Bytes → ℕ → ℕ → ℕ → Type 0
+  -- the version of the text, and the rule that its lines have beside those of version 1
+  pub version : Version
+  pub rule : FurtherRule
+  -- that nothing is lost of the group's function, and the runs of the machine of which that is so
+  pub Exact : List ℕ → ℕ → GroupTree → Type 0
+  pub Runs : Bytes → ℕ → List Region → State → ℕ → State → Type 0
 
 -- What the group lists: the function under the name, entered at e; exactly the bytes of the reached code; the registers but x0 that it
--- reads or writes; so many memories that this holds; and one definition for each of its parts.
-pub record ListsWith (HasMemories : ℕ → Type 0) (code : Bytes) (e : ℕ) (graph : GraphOf) (name : List ℕ) (g : GroupTree) : Type 0 where
+-- reads or writes; the form's memories; and one definition for each part of each of the functions.
+pub record Lists (form : ItemForm) (code : Bytes) (e : ℕ) (ms : List Member) (name : List ℕ) (g : GroupTree) : Type 0 where
   pub named : g.name ≡ name
   pub entry : entry_at g (listed_def g) ≡ Some e
-  pub bytes : (a b : ℕ) → (range_bytes g.code a ≡ Some b) ↔ (IsCodeOf code e a × (code a ≡ Some b))
-  pub registers : (r : ℕ) → Contains g.regs r ↔ ((1 ≤ r) × (r ≤ 31) × IsUsed code e r)
-  pub memory : HasMemories g.mems
-  pub defs : HasDefs graph g.defs
+  pub bytes : (a b : ℕ) → (range_bytes g.code a ≡ Some b) ↔ (IsCodeIn code (form.Reached code e) a × (code a ≡ Some b))
+  pub registers : (r : ℕ) → Contains g.regs r ↔ ((1 ≤ r) × (r ≤ 31) × IsUsedIn form.linked code (form.Reached code e) r)
+  pub memory : form.HasMemories (UsesMemoryIn form.linked code (form.Reached code e)) g.mems
+  pub defs : HaveDefs ms g.defs
 
--- .. with a memory exactly where the code loads or stores
-abbrev pub Lists : Bytes → ℕ → GraphOf → List ℕ → GroupTree → Type 0
-Lists code e graph name g = ListsWith (HasMemory code e) code e graph name g
-
--- The item of a name, which has no fault: what it lists is of the code that is reached from the name's address, as many instructions as it
--- tells; each definition is that of its part; it is accepted for the file, nothing is lost of the function, its turns count steps, and it has a
--- text.
-pub record IsItemFor (file name : List ℕ) (item : Item) : Type 0 where
+-- The item of a name, which has no fault: what it lists is of the functions to which calls lead from the name's address, and it tells the sum of
+-- their sizes; each definition is that of its part; it is accepted for the file by the rules of the form's version, nothing is lost of the
+-- function, its turns count steps, and it has a text of that version.
+pub record IsItemBy (form : ItemForm) (file name : List ℕ) (item : Item) : Type 0 where
   pub entry : ℕ
   pub stands : StandsFor file name (Ok entry)
-  pub inside : IsInFragment file name
-  pub graph : GraphOf
-  pub reach : IsGraphOf false (code_of_file file) entry graph
-  pub reached : item.reached ≡ length graph.addrs
-  pub lists : Lists (code_of_file file) entry graph name (group_tree item.group)
-  pub made : AreDefsAlone (λ a q. q ≡ 0) (code_of_file file) entry graph (group_tree item.group)
-  pub accepted : IsAccepted file (proof_of item)
-  pub exact : Exact file (group_tree item.group)
-  pub steps : CountsSteps 32 FirstReturns file (group_tree item.group)
-  pub text : IsProofIn version_1 (proof_of item)
+  pub inside : (why : LinkWhy) → form.IsFirst file name why → ⊥
+  pub functions : List Member
+  pub are : AreEntries (form.Calls (code_of_file file)) entry (map (λ m. m.at) functions)
+  pub reached : item.reached ≡ sum_by (λ m. length m.graph.addrs) functions
+  pub lists : Lists form (code_of_file file) entry functions name (group_tree item.group)
+  pub made : AreDefsOf form.linked (form.Uses (code_of_file file) entry) (code_of_file file) functions (group_tree item.group)
+  pub accepted : IsAcceptedBy form.rule file (proof_of item)
+  pub exact : form.Exact file entry (group_tree item.group)
+  pub steps : CountsSteps 32 (form.Runs (code_of_file file) entry) file (group_tree item.group)
+  pub text : IsProofIn form.version (proof_of item)
 
 -- an item for each of the names, in order
-abbrev pub AreItemsFor : List ℕ → List (List ℕ) → Proof → Type 0
-AreItemsFor file names p = AllZip (IsItemFor file) names p.items
+abbrev pub AreItemsBy : ItemForm → List ℕ → List (List ℕ) → Proof → Type 0
+AreItemsBy form file names p = AllZip (IsItemBy form file) names p.items
 
 -- the first of the names with a fault is the one of that number, and this is its fault; the names before it have items
-pub record IsFirstWith (Fault : Type 0) (HasFault : List ℕ → Fault → Type 0) (HasItem : List ℕ → Type 0) (names : List (List ℕ)) (number : ℕ) (why : Fault) : Type 0 where
+pub record IsRefusedBy (form : ItemForm) (file : List ℕ) (names : List (List ℕ)) (number : ℕ) (why : LinkWhy) : Type 0 where
   pub name : List ℕ
   pub at : slice_get names number ≡ Some name
-  pub first : HasFault name why
-  pub before : (k : ℕ) (other : List ℕ) → k < number → slice_get names k ≡ Some other → HasItem other
+  pub first : form.IsFirst file name why
+  pub before : (k : ℕ) (other : List ℕ) → k < number → slice_get names k ≡ Some other → (item : Item) × IsItemBy form file other item
 
--- .. the first that is outside the fragment
-abbrev pub IsRefused : List ℕ → List (List ℕ) → ℕ → Outside → Type 0
-IsRefused file names number why = IsFirstWith Outside (IsFirst file) (λ name. (item : Item) × IsItemFor file name item) names number why
+-- ---- alone
+
+-- a memory exactly where an instruction loads or stores
+abbrev pub HasMemory : Type 0 → ℕ → Type 0
+HasMemory Uses mems = ((mems ≡ 1) × Uses) ⊎ ((mems ≡ 0) × (Uses → ⊥))
+
+-- a function that calls none, as a text of version 1
+abbrev pub alone_form : ItemForm
+alone_form = record {
+  linked = false;
+  Calls = λ code a b. ⊥;
+  IsFirst = IsFaultAlone;
+  Reached = λ code e. Reaches (Next false code) e;
+  HasMemories = HasMemory;
+  Uses = λ code e. InFirstMemory;
+  version = version_1;
+  rule = no_rule;
+  Exact = λ file e. Exact file;
+  Runs = λ code e. FirstReturns;
+}
+
+abbrev pub IsItemFor : List ℕ → List ℕ → Item → Type 0
+IsItemFor file name item = IsItemBy alone_form file name item

@@ -3,8 +3,8 @@
 ghost use Rattle.std.specs.Prelude.{◌≡◌, ℕ, List as Items, All, Ok as Fine, IfOk, IfErr};
 ghost use Rattle.elf_image.specs.Image.{code_in, image_of};
 ghost use Rattle.group_text.specs.Limits.{IsName};
-ghost use Rattle.decompiler.specs.Listing.{AreItemsFor, IsItemFor};
-ghost use Rattle.decompiler.specs.Refusals.{IsFaultOf};
+ghost use Rattle.decompiler.specs.Listing.{AreItemsBy, IsItemFor, alone_form};
+ghost use Rattle.decompiler.specs.Refusals.{IsFaultBy};
 ghost use Rattle.decompiler.specs.Names.{StandsFor};
 ghost use Rattle.decompiler.specs.inner.Functions.{IsNoFunction, IsNoItem, outside_of, refusal};
 
@@ -23,10 +23,10 @@ pub fn decompile(alloc: Global, image: &Image, names: &List<Text>) -> Result<Pro
     requires { All IsName names.now }
     ensures items { (file : Items ℕ)
         → image.now ≡ image_of file
-        → IfOk result (AreItemsFor file names.now) }
+        → IfOk result (AreItemsBy alone_form file names.now) }
     ensures refused { (file : Items ℕ)
         → image.now ≡ image_of file
-        → IfErr result (IsFaultOf file names.now) }
+        → IfErr result (IsFaultBy alone_form file names.now) }
 {
     let all = names.as_slice();
     let mut items = List::new(alloc);

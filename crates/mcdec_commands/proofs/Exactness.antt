@@ -31,7 +31,7 @@ use Rattle.mcdec_words.specs.declared.command.Form.TheVariants.{Alone}
 use Rattle.call_graph.specs.declared.fault.LinkWhy.{LinkWhy}
 use Rattle.mcdec_answers.specs.declared.answer.DecompileAnswer.{DecompileAnswer}
 use Rattle.mcdec_answers.specs.declared.answer.DecompileAnswer.TheVariants as de
-use Rattle.mcdec_commands.specs.DecompileAnswer.{DecompileGives, IsItemIn, IsRefusedIn, all_listed, without_walks}
+use Rattle.mcdec_commands.specs.DecompileAnswer.{DecompileGives, IsRefusedIn, all_listed, item_form, without_walks}
 use Rattle.mcdec_answers.specs.declared.answer.Listed.{Listed}
 use Rattle.mcdec_answers.specs.declared.answer.SelfTestAnswer.{SelfTestAnswer}
 use Rattle.mcdec_commands.specs.SelfTestAnswer.{SelfTestGives, without_turns}
@@ -64,6 +64,7 @@ use Rattle.elf_image.specs.declared.symbol.NameFault.{NameFault}
 use Rattle.rv_machine.specs.State.{State}
 use Rattle.rv_machine.specs.declared.running.RunEnd.TheVariants as end
 use Rattle.rv_machine.proofs.RunLemmas.{ends-once}
+use Rattle.decompiler.specs.Listing.{IsItemBy}
 use Rattle.decompiler.specs.Names.{StandsFor}
 use Rattle.mcdec_commands.specs.Memory.{shown_at}
 use Rattle.mcdec_commands.specs.RunAnswer.{elf_limit, IsLoaded, answer_at, state_given, RunGives}
@@ -357,7 +358,7 @@ check-unique files proof file a b (inr h) (inr k) = loaded-unique files proof fi
 
 abbrev NamesCase : Form → List ℕ → List (List ℕ) → DecompileAnswer → Type 0
 NamesCase form file names a = ((number : ℕ) × (name : List ℕ) × (why : LinkWhy) × (slice_get names number ≡ Some name) × IsRefusedIn form file names number why × (a ≡ de.Refused name why))
-    ⊎ ((items : List Item) × AllZip (IsItemIn form file) names items × (a ≡ de.Decompiled form (all_listed names items)))
+    ⊎ ((items : List Item) × AllZip (IsItemBy (item_form form) file) names items × (a ≡ de.Decompiled form (all_listed names items)))
 
 abbrev GoodFile : Form → List ℕ → List (List ℕ) → DecompileAnswer → Type 0
 GoodFile form file names a = ((why : ElfFault) × (fault_of file ≡ Some why) × (a ≡ de.Unreadable why)) ⊎ (IsReadable file × NamesCase form file names a)

@@ -29,8 +29,8 @@ use Rattle.loop_forest.proofs.OneForest.{one_head}
 use Rattle.path_walk.specs.declared.item.Item.{Item}
 use Rattle.code_parts.proofs.Lists.{here, later}
 use Rattle.decompiler.specs.Names.{StandsFor}
-use Rattle.decompiler.specs.Faults.{IsFirst, IsInFragment, Missing, Doubled, InCode, InCycle, InLoop}
-use Rattle.decompiler.specs.Listing.{HasDefs, IsDefOf, IsItemFor}
+use Rattle.decompiler.specs.Faults.{IsFaultAlone, IsFirst, Missing, Doubled, InCode, InCycle, InLoop}
+use Rattle.decompiler.specs.Listing.{HasDefs, HaveDefs, IsDefOf, IsItemBy}
 use Rattle.call_graph.specs.Causes.{HasOneForm, IsCause}
 use Rattle.call_graph.specs.declared.fault.LinkWhy.{LinkWhy}
 use Rattle.call_graph.specs.declared.fault.LinkWhy.TheVariants as link
@@ -41,9 +41,7 @@ use Rattle.mcdec_answers.specs.declared.answer.DecompileAnswer.TheVariants as de
 use Rattle.mcdec_words.specs.declared.command.Form.{Form}
 use Rattle.mcdec_words.specs.declared.command.Form.TheVariants.{Alone, Linked, Split}
 use Rattle.code_parts.specs.Members.{Member}
-use Rattle.call_link.specs.Listing.{HaveDefs, IsLinkedItemFor}
-use Rattle.stack_split.specs.Listing.{IsSplitItemFor}
-use Rattle.mcdec_commands.specs.DecompileAnswer.{IsFaultAlone, IsFaultIn, IsItemIn, IsRefusedIn, all_listed, listed_of, without_walks}
+use Rattle.mcdec_commands.specs.DecompileAnswer.{IsRefusedIn, all_listed, item_form, listed_of, without_walks}
 use Rattle.mcdec_commands.proofs.Weighing.{AreGiven, AreWeighed, one-total, sizes-once, total}
 
 -- ---- what a name stands for
@@ -142,34 +140,6 @@ defs-long g ds es h k =
     let right = zip-long (IsDefOf g) k.parts es k.each in
     omega (arith, one, two, left, right)
 
--- ---- what is told of an item
-
--- what an item of a function by itself tells, whatever its memories
-record Tells (file name : List ℕ) (i : Item) : Type 0 where
-  entry : ℕ
-  stands : StandsFor file name (Ok entry)
-  graph : GraphOf
-  reach : IsGraphOf false (code_of_file file) entry graph
-  reached : i.reached ≡ length graph.addrs
-  entered : entry_at (group_tree i.group) (listed_def (group_tree i.group)) ≡ Some entry
-  defs : HasDefs graph (group_tree i.group).defs
-
-alone-tells : (file name : List ℕ) (i : Item) → IsItemFor file name i → Tells file name i
-alone-tells file name i h = record { entry = h.entry; stands = h.stands; graph = h.graph; reach = h.reach; reached = h.reached; entered = h.lists.entry; defs = h.lists.defs }
-
-split-tells : (file name : List ℕ) (i : Item) → IsSplitItemFor file name i → Tells file name i
-split-tells file name i h = record { entry = h.entry; stands = h.stands; graph = h.graph; reach = h.reach; reached = h.reached; entered = h.lists.entry; defs = h.lists.defs }
-
-listed-once : (file name : List ℕ) (i j : Item) → Tells file name i → Tells file name j → listed_of name i ≡ listed_of name j
-listed-once file name i j h k =
-    let e : h.entry ≡ k.entry = same-value file name h.entry k.entry h.stands k.stands in
-    let g : h.graph ≡ k.graph = one_graph false (code_of_file file) k.entry h.graph k.graph (subst (λ a. IsGraphOf false (code_of_file file) a h.graph) e h.reach) k.reach in
-    let entry : entry_at (group_tree i.group) (listed_def (group_tree i.group)) ≡ entry_at (group_tree j.group) (listed_def (group_tree j.group)) = h.entered ∙ ap Some e ∙ sym k.entered in
-    let reached : i.reached ≡ j.reached = h.reached ∙ ap (λ (x : GraphOf). length x.addrs) g ∙ sym k.reached in
-    let defs : length (group_tree i.group).defs ≡ length (group_tree j.group).defs =
-    defs-long k.graph (group_tree i.group).defs (group_tree j.group).defs (subst (λ (x : GraphOf). HasDefs x (group_tree i.group).defs) g h.defs) k.defs in
-    λ t. record { name = name; entry = unwrap_or (entry t) 0; reached = reached t; defs = defs t }
-
 -- ---- faults
 
 abbrev of_name : NameFault → Outside
@@ -243,7 +213,7 @@ alone-once file name (link.Outside why) (link.Outside other) u h k = ap link.Out
 alone-once file name (link.Outside why) (link.Recursive b) u h k = absurd k
 alone-once file name (link.Recursive a) other u h k = absurd h
 
-fault-once : (form : Form) (file name : List ℕ) (why other : LinkWhy) → HasOneForm other → IsFaultIn form file name why → IsFaultIn form file name other → why ≡ other
+fault-once : (form : Form) (file name : List ℕ) (why other : LinkWhy) → HasOneForm other → (item_form form).IsFirst file name why → (item_form form).IsFirst file name other → why ≡ other
 fault-once Alone file name why other u h k = alone-once file name why other u h k
 fault-once Linked file name why other u h k = links-once file name why other u (link-case file name why h) (link-case file name other k)
 fault-once Split file name why other u h k = alone-once file name why other u h k
@@ -267,7 +237,7 @@ forms name (link.Outside (outside.TwoEntries cycle first second)) = inr refl
 forms name (link.Outside (outside.ManyExits a)) = inl tt
 forms name (link.Recursive a) = inl tt
 
-faults-alike : (form : Form) (file name told : List ℕ) (why other : LinkWhy) → IsFaultIn form file name why → IsFaultIn form file name other → Alike told why other
+faults-alike : (form : Form) (file name told : List ℕ) (why other : LinkWhy) → (item_form form).IsFirst file name why → (item_form form).IsFirst file name other → Alike told why other
 faults-alike form file name told why other h k = of-forms (forms told why) (forms told other)
   where
     of-forms : HasOneForm why ⊎ (without_walks (de.Refused told why) ≡ de.Refused told (link.Outside (outside.TwoEntries [] [] [])))
@@ -276,14 +246,8 @@ faults-alike form file name told why other h k = of-forms (forms told why) (form
     of-forms (inl u) (inr e) = sym (ap (λ (w : LinkWhy). without_walks (de.Refused told w)) (fault-once form file name other why u k h))
     of-forms (inr e) (inr d) = e ∙ sym d
 
-no-fault : (file name : List ℕ) → IsInFragment file name → (why : LinkWhy) → IsFaultAlone file name why → ⊥
-no-fault file name inside (link.Outside why) f = inside why f
-no-fault file name inside (link.Recursive a) f = absurd f
-
-item-inside : (form : Form) (file name : List ℕ) (i : Item) → IsItemIn form file name i → (why : LinkWhy) → IsFaultIn form file name why → ⊥
-item-inside Alone file name i h why f = no-fault file name h.inside why f
-item-inside Linked file name i h why f = h.inside why f
-item-inside Split file name i h why f = no-fault file name h.inside why f
+item-inside : (form : Form) (file name : List ℕ) (i : Item) → IsItemBy (item_form form) file name i → (why : LinkWhy) → (item_form form).IsFirst file name why → ⊥
+item-inside form file name i h why f = h.inside why f
 
 -- definitions of functions, as many as each has behind its entry
 abbrev counted : List Member → List (List DefTree) → List (ℕ × ℕ)
@@ -296,11 +260,12 @@ IsDefCount g n = (row : List DefTree) × HasDefs g row × (n ≡ length row)
 one-count : (g : GraphOf) (n m : ℕ) → IsDefCount g n → IsDefCount g m → n ≡ m
 one-count g n m a b = a.2 ∙ defs-long g a.0 b.0 a.1 b.1 ∙ sym b.2
 
-are-counted : (code : Bytes) (e : ℕ) (fs : List Member) (rows : List (List DefTree)) → AllZip (λ f row. HasDefs f.graph row) fs rows → AreWeighed code e IsDefCount one-count fs (counted fs rows)
-are-counted code e [] [] h = tt
-are-counted code e [] (r ∷ rows) h = absurd h
-are-counted code e (f ∷ fs) [] h = absurd h
-are-counted code e (f ∷ fs) (r ∷ rows) h = ((refl, (r, h.0, refl)), are-counted code e fs rows h.1)
+are-counted : (linked : Bool) (Calls : ℕ → ℕ → Type 0) (code : Bytes) (e : ℕ) (fs : List Member) (rows : List (List DefTree)) → AllZip (λ f row. HasDefs f.graph row) fs rows
+    → AreWeighed linked Calls code e IsDefCount one-count fs (counted fs rows)
+are-counted linked Calls code e [] [] h = tt
+are-counted linked Calls code e [] (r ∷ rows) h = absurd h
+are-counted linked Calls code e (f ∷ fs) [] h = absurd h
+are-counted linked Calls code e (f ∷ fs) (r ∷ rows) h = ((refl, (r, h.0, refl)), are-counted linked Calls code e fs rows h.1)
 
 count-all : (fs : List Member) (rows : List (List DefTree)) → AllZip (λ f row. HasDefs f.graph row) fs rows → length (flat_map (λ (row : List DefTree). row) rows) ≡ total (counted fs rows)
 count-all [] [] h = refl
@@ -308,34 +273,32 @@ count-all [] (r ∷ rows) h = absurd h
 count-all (f ∷ fs) [] h = absurd h
 count-all (f ∷ fs) (r ∷ rows) h = length-append r (flat_map (λ (row : List DefTree). row) rows) ∙ ap (λ n. length r + n) (count-all fs rows h.1)
 
-linked-defs-long : (code : Bytes) (e : ℕ) (fs gs : List Member) (ds es : List DefTree) → AreGiven code e fs → AreGiven code e gs → HaveDefs fs ds → HaveDefs gs es → length ds ≡ length es
-linked-defs-long code e fs gs ds es are too h k =
+all-defs-long : (linked : Bool) (Calls : ℕ → ℕ → Type 0) (code : Bytes) (e : ℕ) (fs gs : List Member) (ds es : List DefTree) → AreGiven linked Calls code e fs → AreGiven linked Calls code e gs
+    → HaveDefs fs ds → HaveDefs gs es → length ds ≡ length es
+all-defs-long linked Calls code e fs gs ds es are too h k =
     ap length h.all ∙ count-all fs h.rows h.each
-    ∙ one-total code e IsDefCount one-count fs gs (counted fs h.rows) (counted gs k.rows) are too (are-counted code e fs h.rows h.each) (are-counted code e gs k.rows k.each)
+    ∙ one-total linked Calls code e IsDefCount one-count fs gs (counted fs h.rows) (counted gs k.rows) are too (are-counted linked Calls code e fs h.rows h.each) (are-counted linked Calls code e gs k.rows k.each)
     ∙ sym (count-all gs k.rows k.each) ∙ sym (ap length k.all)
 
--- the functions that an item lists
-functions-given : (file name : List ℕ) (i : Item) (h : IsLinkedItemFor file name i) → AreGiven (code_of_file file) h.entry h.functions
-functions-given file name i h = record { functions = h.are.functions; graphs = λ m c. (h.made.each m c).graph }
-
 -- what is told of an item is told once
-pub told-once : (form : Form) (file name : List ℕ) (i j : Item) → IsItemIn form file name i → IsItemIn form file name j → listed_of name i ≡ listed_of name j
-told-once Alone file name i j h k = listed-once file name i j (alone-tells file name i h) (alone-tells file name j k)
-told-once Split file name i j h k = listed-once file name i j (split-tells file name i h) (split-tells file name j k)
-told-once Linked file name i j h k =
+pub told-once : (form : Form) (file name : List ℕ) (i j : Item) → IsItemBy (item_form form) file name i → IsItemBy (item_form form) file name j → listed_of name i ≡ listed_of name j
+told-once form file name i j h k =
     let code = code_of_file file in
+    let linked = (item_form form).linked in
+    let calls = (item_form form).Calls code in
     let e : h.entry ≡ k.entry = same-value file name h.entry k.entry h.stands k.stands in
-    let are : AreGiven code k.entry h.functions = subst (λ a. AreGiven code a h.functions) e (functions-given file name i h) in
-    let too : AreGiven code k.entry k.functions = functions-given file name j k in
+    let own : AreGiven linked calls code h.entry h.functions = record { functions = h.are.functions; graphs = λ m c. (h.made.each m c).graph } in
+    let are : AreGiven linked calls code k.entry h.functions = subst (λ a. AreGiven linked calls code a h.functions) e own in
+    let too : AreGiven linked calls code k.entry k.functions = record { functions = k.are.functions; graphs = λ m c. (k.made.each m c).graph } in
     let entry : entry_at (group_tree i.group) (listed_def (group_tree i.group)) ≡ entry_at (group_tree j.group) (listed_def (group_tree j.group)) = h.lists.entry ∙ ap Some e ∙ sym k.lists.entry in
-    let reached : i.reached ≡ j.reached = h.reached ∙ sizes-once code k.entry h.functions k.functions are too ∙ sym k.reached in
+    let reached : i.reached ≡ j.reached = h.reached ∙ sizes-once linked calls code k.entry h.functions k.functions are too ∙ sym k.reached in
     let defs : length (group_tree i.group).defs ≡ length (group_tree j.group).defs =
-    linked-defs-long code k.entry h.functions k.functions (group_tree i.group).defs (group_tree j.group).defs are too h.lists.defs k.lists.defs in
+    all-defs-long linked calls code k.entry h.functions k.functions (group_tree i.group).defs (group_tree j.group).defs are too h.lists.defs k.lists.defs in
     λ t. record { name = name; entry = unwrap_or (entry t) 0; reached = reached t; defs = defs t }
 
 -- what is told of items is told once
 pub all-told-once : (form : Form) (file : List ℕ) (names : List (List ℕ)) (is js : List Item)
-    → AllZip (IsItemIn form file) names is → AllZip (IsItemIn form file) names js → all_listed names is ≡ all_listed names js
+    → AllZip (IsItemBy (item_form form) file) names is → AllZip (IsItemBy (item_form form) file) names js → all_listed names is ≡ all_listed names js
 all-told-once form file [] [] [] h k = refl
 all-told-once form file [] [] (j ∷ js) h k = absurd k
 all-told-once form file [] (i ∷ is) js h k = absurd h
@@ -349,15 +312,15 @@ all-told-once form file (n ∷ names) (i ∷ is) (j ∷ js) h k =
 -- ---- refusals
 
 -- an item for the name of that number
-pub item-there : (form : Form) (file : List ℕ) (names : List (List ℕ)) (is : List Item) → AllZip (IsItemIn form file) names is → (n : ℕ) (name : List ℕ) → slice_get names n ≡ Some name → (i : Item) × IsItemIn form file name i
+pub item-there : (form : Form) (file : List ℕ) (names : List (List ℕ)) (is : List Item) → AllZip (IsItemBy (item_form form) file) names is → (n : ℕ) (name : List ℕ) → slice_get names n ≡ Some name → (i : Item) × IsItemBy (item_form form) file name i
 item-there form file [] is h n name at = absurd (cc)
 item-there form file (x ∷ names) [] h n name at = absurd h
-item-there form file (x ∷ names) (i ∷ is) h zero name at = let same : x ≡ name = cc in (i, subst (λ y. IsItemIn form file y i) same h.0)
+item-there form file (x ∷ names) (i ∷ is) h zero name at = let same : x ≡ name = cc in (i, subst (λ y. IsItemBy (item_form form) file y i) same h.0)
 item-there form file (x ∷ names) (i ∷ is) h (suc n) name at = item-there form file names is h.1 n name at
 
 module _ (form : Form) (file : List ℕ) (names : List (List ℕ)) where
   -- names that all have items aren't refused
-  pub none-refused : (is : List Item) → AllZip (IsItemIn form file) names is → (n : ℕ) (why : LinkWhy) → IsRefusedIn form file names n why → ⊥
+  pub none-refused : (is : List Item) → AllZip (IsItemBy (item_form form) file) names is → (n : ℕ) (why : LinkWhy) → IsRefusedIn form file names n why → ⊥
   none-refused is h n why r = let i = item-there form file names is h n r.name r.at in item-inside form file r.name i.0 i.1 why r.first
 
   not-before : (n m : ℕ) (why other : LinkWhy) → IsRefusedIn form file names n why → IsRefusedIn form file names m other → n < m → ⊥
@@ -368,4 +331,4 @@ module _ (form : Form) (file : List ℕ) (names : List (List ℕ)) where
       let number : n ≡ m = omega (arith, not-before n m why other r s, not-before m n other why s r) in
       let some : Some r.name ≡ Some s.name = sym r.at ∙ ap (λ k. slice_get names k) number ∙ s.at in
       let name : r.name ≡ s.name = cc in
-      (number, λ n. faults-alike form file s.name n why other (subst (λ x. IsFaultIn form file x why) name r.first) s.first)
+      (number, λ n. faults-alike form file s.name n why other (subst (λ x. (item_form form).IsFirst file x why) name r.first) s.first)

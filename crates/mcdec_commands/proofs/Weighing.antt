@@ -1,5 +1,5 @@
--- Numbers of linked functions, summed over all of them: the order in which they stand changes nothing.
-use Rattle.std.proofs.Common.{◌≡◌, ℕ, zero, suc, ◌+◌, ◌<◌, ◌≤◌, true, List, [], ◌∷◌, map, length, get_or, Some, refl, sym, ap, subst, ◌∙◌, arith}
+-- Numbers of functions, summed over all of them: the order in which they stand changes nothing.
+use Rattle.std.proofs.Common.{◌≡◌, ℕ, zero, suc, ◌+◌, ◌<◌, ◌≤◌, Bool, List, [], ◌∷◌, map, length, get_or, Some, refl, sym, ap, subst, ◌∙◌, arith}
 use Rattle.std.specs.Prelude.{slice_get}
 use Rattle.std.specs.List.{AllZip, Contains, sum_by}
 use Rattle.std.proofs.lemmas.List.Sums.{sum_by-cons}
@@ -8,7 +8,6 @@ use Rattle.rv_words.specs.Bytes.{Bytes}
 use Rattle.flow_graph.specs.Graph.{GraphOf, IsGraphOf}
 use Rattle.flow_graph.proofs.GraphLaws.{one_graph}
 use Rattle.flow_graph.specs.Reach.{IsReach}
-use Rattle.call_graph.specs.Calls.{CallsTo}
 use Rattle.code_parts.specs.Members.{Member}
 use Rattle.code_parts.proofs.Lists.{slice-mapped}
 
@@ -69,9 +68,9 @@ abbrev pub size_of : Member → ℕ
 size_of m = length m.graph.addrs
 
 -- the functions of e, each with its graph
-pub record AreGiven (code : Bytes) (e : ℕ) (fs : List Member) : Type 0 where
-  pub functions : IsReach (CallsTo code) e (entries_of fs)
-  pub graphs : (m : Member) → Contains fs m → IsGraphOf true code m.at m.graph
+pub record AreGiven (linked : Bool) (Calls : ℕ → ℕ → Type 0) (code : Bytes) (e : ℕ) (fs : List Member) : Type 0 where
+  pub functions : IsReach Calls e (entries_of fs)
+  pub graphs : (m : Member) → Contains fs m → IsGraphOf linked code m.at m.graph
 
 -- the function with that entry
 entered : (fs : List Member) (a : ℕ) → Contains (entries_of fs) a → (k : ℕ) × (m : Member) × (slice_get fs k ≡ Some m) × (m.at ≡ a)
@@ -82,7 +81,7 @@ entered (f ∷ fs) a (suc k, lt, at) = let r = entered fs a (k, omega (arith, lt
 there-in : (fs : List Member) (k : ℕ) (m : Member) → slice_get fs k ≡ Some m → Contains fs m
 there-in fs k m at = (k, slice_get_within fs k m at, get_or_from_slice_get fs k m m at)
 
-module _ (code : Bytes) (e : ℕ) (W : GraphOf → ℕ → Type 0) (one : (g : GraphOf) (n m : ℕ) → W g n → W g m → n ≡ m) where
+module _ (linked : Bool) (Calls : ℕ → ℕ → Type 0) (code : Bytes) (e : ℕ) (W : GraphOf → ℕ → Type 0) (one : (g : GraphOf) (n m : ℕ) → W g n → W g m → n ≡ m) where
   -- the number of each function stands behind its entry
   abbrev pub AreWeighed : List Member → List Row → Type 0
   AreWeighed fs rows = AllZip (λ (f : Member) (r : Row). (r.0 ≡ f.at) × W f.graph r.1) fs rows
@@ -107,7 +106,7 @@ module _ (code : Bytes) (e : ℕ) (W : GraphOf → ℕ → Type 0) (one : (g : G
       (f, refl, own.0, own.1)
   function-of (f ∷ fs) (q ∷ rows) h (suc k) r at = function-of fs rows h.1 k r at
 
-  keys-once : (fs : List Member) (rows : List Row) → AreGiven code e fs → AreWeighed fs rows → HasKeysOnce rows
+  keys-once : (fs : List Member) (rows : List Row) → AreGiven linked Calls code e fs → AreWeighed fs rows → HasKeysOnce rows
   keys-once fs rows are h j k x y at there same =
       let f = function-of fs rows h j x at in
       let g = function-of fs rows h k y there in
@@ -121,7 +120,7 @@ module _ (code : Bytes) (e : ℕ) (W : GraphOf → ℕ → Type 0) (one : (g : G
       let up : k < j → ⊥ = λ lt. are.functions.different k j lt low (sym equal) in
       omega (arith, down, up)
 
-  in-other : (fs gs : List Member) (rows sows : List Row) → AreGiven code e fs → AreGiven code e gs → AreWeighed fs rows → AreWeighed gs sows → AreIn rows sows
+  in-other : (fs gs : List Member) (rows sows : List Row) → AreGiven linked Calls code e fs → AreGiven linked Calls code e gs → AreWeighed fs rows → AreWeighed gs sows → AreIn rows sows
   in-other fs gs rows sows are too h k j x at =
       let f = function-of fs rows h j x at in
       let first = slice-mapped (λ (z : Member). z.at) fs j f.0 f.1 in
@@ -130,14 +129,14 @@ module _ (code : Bytes) (e : ℕ) (W : GraphOf → ℕ → Type 0) (one : (g : G
       let n = entered gs f.0.at (too.functions.all f.0.at is) in
       let own = are.graphs f.0 (there-in fs j f.0 f.1) in
       let other = too.graphs n.1 (there-in gs n.0 n.1 n.2) in
-      let graph : n.1.graph ≡ f.0.graph = one_graph true code f.0.at n.1.graph f.0.graph (subst (λ a. IsGraphOf true code a n.1.graph) n.3 other) own in
+      let graph : n.1.graph ≡ f.0.graph = one_graph linked code f.0.at n.1.graph f.0.graph (subst (λ a. IsGraphOf linked code a n.1.graph) n.3 other) own in
       let s = row-of gs sows k n.0 n.1 n.2 in
       let key : s.0.0 ≡ x.0 = s.2 ∙ n.3 ∙ sym f.2 in
       let weight : s.0.1 ≡ x.1 = one f.0.graph s.0.1 x.1 (subst (λ (g : GraphOf). W g s.0.1) graph s.3) f.3 in
       let row : s.0 ≡ x = λ i. (key i, weight i) in
       (n.0, s.1 ∙ ap (λ (r : Row). Some r) row)
 
-  pub one-total : (fs gs : List Member) (rows sows : List Row) → AreGiven code e fs → AreGiven code e gs → AreWeighed fs rows → AreWeighed gs sows → total rows ≡ total sows
+  pub one-total : (fs gs : List Member) (rows sows : List Row) → AreGiven linked Calls code e fs → AreGiven linked Calls code e gs → AreWeighed fs rows → AreWeighed gs sows → total rows ≡ total sows
   one-total fs gs rows sows are too h k =
       let there = total-le rows sows (keys-once fs rows are h) (in-other fs gs rows sows are too h k) in
       let back = total-le sows rows (keys-once gs sows too k) (in-other gs fs sows rows too are k h) in
@@ -155,13 +154,14 @@ IsSize g n = n ≡ length g.addrs
 one-size : (g : GraphOf) (n m : ℕ) → IsSize g n → IsSize g m → n ≡ m
 one-size g n m a b = a ∙ sym b
 
-sized : (code : Bytes) (e : ℕ) (fs : List Member) → AreWeighed code e IsSize one-size fs (sizes fs)
-sized code e [] = tt
-sized code e (f ∷ fs) = ((refl, refl), sized code e fs)
+sized : (linked : Bool) (Calls : ℕ → ℕ → Type 0) (code : Bytes) (e : ℕ) (fs : List Member) → AreWeighed linked Calls code e IsSize one-size fs (sizes fs)
+sized linked Calls code e [] = tt
+sized linked Calls code e (f ∷ fs) = ((refl, refl), sized linked Calls code e fs)
 
 sum-of-sizes : (fs : List Member) → sum_by size_of fs ≡ total (sizes fs)
 sum-of-sizes [] = refl
 sum-of-sizes (f ∷ fs) = sum_by-cons size_of f fs ∙ ap (λ n. size_of f + n) (sum-of-sizes fs)
 
-pub sizes-once : (code : Bytes) (e : ℕ) (fs gs : List Member) → AreGiven code e fs → AreGiven code e gs → sum_by size_of fs ≡ sum_by size_of gs
-sizes-once code e fs gs are too = sum-of-sizes fs ∙ one-total code e IsSize one-size fs gs (sizes fs) (sizes gs) are too (sized code e fs) (sized code e gs) ∙ sym (sum-of-sizes gs)
+pub sizes-once : (linked : Bool) (Calls : ℕ → ℕ → Type 0) (code : Bytes) (e : ℕ) (fs gs : List Member) → AreGiven linked Calls code e fs → AreGiven linked Calls code e gs → sum_by size_of fs ≡ sum_by size_of gs
+sizes-once linked Calls code e fs gs are too =
+    sum-of-sizes fs ∙ one-total linked Calls code e IsSize one-size fs gs (sizes fs) (sizes gs) are too (sized linked Calls code e fs) (sized linked Calls code e gs) ∙ sym (sum-of-sizes gs)

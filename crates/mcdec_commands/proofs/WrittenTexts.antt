@@ -17,13 +17,11 @@ use Rattle.proof_v2.specs.AnyVerdicts.{SaysIn}
 use Rattle.proof_v2.specs.Titles.{named_version}
 use Rattle.text_versions.specs.Versions.{SaysOf}
 use Rattle.path_walk.specs.declared.proof.Proof.{Proof}
-use Rattle.decompiler.specs.Listing.{AreItemsFor, proofs_of}
-use Rattle.call_link.specs.Listing.{AreLinkedItemsFor}
-use Rattle.stack_split.specs.Listing.{AreSplitItemsFor}
+use Rattle.decompiler.specs.Listing.{proofs_of}
 use Rattle.mcdec_words.specs.declared.command.Form.{Form}
 use Rattle.mcdec_words.specs.declared.command.Form.TheVariants.{Alone, Linked, Split}
 use Rattle.mcdec_answers.specs.declared.answer.Answer.{Answer}
-use Rattle.mcdec_commands.specs.DecompileAnswer.{AreItemsIn, IsTextFor, version_in}
+use Rattle.mcdec_commands.specs.DecompileAnswer.{AreItemsIn, IsTextFor, item_form, version_in}
 
 named-one : (ps : List ProofTree) → named_version (text_of_proofs_in version_1 ps) ≡ One
 named-one ps = refl
@@ -44,25 +42,27 @@ says-of k file text functions lines e h = subst (λ (x : Known). SaysIn (further
 
 -- what the laws of items say
 pub record AreAcceptedItems : Type 0 where
-  pub alone : (file : List ℕ) (names : List (List ℕ)) (p : Proof) → IsReadable file → AreItemsFor file names p → AcceptsBy no_rule file (proofs_of p)
-  pub alone_text : (file : List ℕ) (names : List (List ℕ)) (p : Proof) → AreItemsFor file names p → AreProofsIn version_1 (proofs_of p)
-  pub linked : (file : List ℕ) (names : List (List ℕ)) (p : Proof) → IsReadable file → AreLinkedItemsFor file names p → AcceptsBy IsSteered file (proofs_of p)
-  pub linked_text : (file : List ℕ) (names : List (List ℕ)) (p : Proof) → AreLinkedItemsFor file names p → AreProofsIn version_3 (proofs_of p)
-  pub split : (file : List ℕ) (names : List (List ℕ)) (p : Proof) → IsReadable file → AreSplitItemsFor file names p → AcceptsBy IsExchanged file (proofs_of p)
-  pub split_text : (file : List ℕ) (names : List (List ℕ)) (p : Proof) → AreSplitItemsFor file names p → AreProofsIn version_4 (proofs_of p)
+  pub accepted : (form : Form) (file : List ℕ) (names : List (List ℕ)) (p : Proof) → IsReadable file → AreItemsIn form file names p → AcceptsBy (item_form form).rule file (proofs_of p)
+  pub text : (form : Form) (file : List ℕ) (names : List (List ℕ)) (p : Proof) → AreItemsIn form file names p → AreProofsIn (version_in form) (proofs_of p)
+
+-- .. one by one
+pub in-each-form : (P : Form → Type 0) → P Alone → P Linked → P Split → (form : Form) → P form
+in-each-form P alone linked split Alone = alone
+in-each-form P alone linked split Linked = linked
+in-each-form P alone linked split Split = split
 
 module _ (law : AreAcceptedItems) where
   accepted-in : (form : Form) (file text : List ℕ) (names : List (List ℕ)) (p : Proof) → IsReadable file → AreItemsIn form file names p → text ≡ text_of_proofs_in (version_in form) (proofs_of p)
       → SaysOf file text (verdict.Accepted (length (proofs_of p)) (line_count (proofs_of p)))
   accepted-in Alone file text names p readable items is =
       says-of One file text _ _ (subst (λ (t : List ℕ). named_version t ≡ One) (sym is) (named-one (proofs_of p)))
-      (accepted-text no_rule version_1 file text (proofs_of p) (law.alone_text file names p items) is (law.alone file names p readable items))
+      (accepted-text no_rule version_1 file text (proofs_of p) (law.text Alone file names p items) is (law.accepted Alone file names p readable items))
   accepted-in Linked file text names p readable items is =
       says-of Three file text _ _ (subst (λ (t : List ℕ). named_version t ≡ Three) (sym is) (named-three (proofs_of p)))
-      (accepted-text IsSteered version_3 file text (proofs_of p) (law.linked_text file names p items) is (law.linked file names p readable items))
+      (accepted-text IsSteered version_3 file text (proofs_of p) (law.text Linked file names p items) is (law.accepted Linked file names p readable items))
   accepted-in Split file text names p readable items is =
       says-of Four file text _ _ (subst (λ (t : List ℕ). named_version t ≡ Four) (sym is) (named-four (proofs_of p)))
-      (accepted-text IsExchanged version_4 file text (proofs_of p) (law.split_text file names p items) is (law.split file names p readable items))
+      (accepted-text IsExchanged version_4 file text (proofs_of p) (law.text Split file names p items) is (law.accepted Split file names p readable items))
 
   one-file : (x y : List ℕ) (held : Option (List ℕ)) → held ≡ Some x → held ≡ Some y → x ≡ y
   one-file x y held a b = cc

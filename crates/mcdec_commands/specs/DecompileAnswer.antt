@@ -1,11 +1,10 @@
 -- When each answer to `decompile`, `link` and `split` comes, and what text they write.
 use Rattle.std.specs.Prelude.{◌≡◌, ℕ, ◌<◌, ◌≤◌, List, [], ◌∷◌, length, slice_get, Some, unwrap_or}
-use Rattle.std.specs.List.{AllZip}
 use Rattle.mc_shelf.specs.Shelf.{Contents}
 use Rattle.elf_image.specs.Fault.{fault_of}
 use Rattle.flow_graph.specs.declared.outside.Outside.TheVariants.{TwoEntries}
 use Rattle.tailrec_lang.specs.Tree.{group_tree, listed_def}
-use Rattle.group_text.specs.Version.{Version, version_1, version_3, version_4}
+use Rattle.group_text.specs.Version.{Version}
 use Rattle.proof_text.specs.Proofs.{text_of_proofs_in}
 use Rattle.mcdec_words.specs.declared.command.Form.{Form}
 use Rattle.mcdec_words.specs.declared.command.Form.TheVariants.{Alone, Linked, Split}
@@ -14,11 +13,9 @@ use Rattle.call_graph.specs.declared.fault.LinkWhy.TheVariants as link
 use Rattle.claims.specs.Headline.{entry_at}
 use Rattle.path_walk.specs.declared.item.Item.{Item}
 use Rattle.path_walk.specs.declared.proof.Proof.{Proof}
-use Rattle.decompiler.specs.Faults.{IsFirst}
-use Rattle.decompiler.specs.Listing.{IsFirstWith, IsItemFor, proofs_of}
-use Rattle.call_link.specs.Faults.{IsLinkFirst}
-use Rattle.call_link.specs.Listing.{IsLinkedItemFor}
-use Rattle.stack_split.specs.Listing.{IsSplitItemFor}
+use Rattle.decompiler.specs.Listing.{AreItemsBy, IsRefusedBy, ItemForm, alone_form, proofs_of}
+use Rattle.call_link.specs.Listing.{linked_form}
+use Rattle.stack_split.specs.Listing.{split_form}
 use Rattle.mcdec_answers.specs.declared.answer.Answer.{Answer}
 use Rattle.mcdec_answers.specs.declared.answer.Answer.TheVariants.{Decompile}
 use Rattle.mcdec_answers.specs.declared.answer.DecompileAnswer.{DecompileAnswer}
@@ -43,35 +40,20 @@ all_listed (name ∷ names) (item ∷ items) = listed_of name item ∷ all_liste
 
 -- ---- functions by themselves, with those that they call, or with a memory for the stack
 
--- the item of a name
-abbrev pub IsItemIn : Form → (file name : List ℕ) → Item → Type 0
-IsItemIn Alone file name item = IsItemFor file name item
-IsItemIn Linked file name item = IsLinkedItemFor file name item
-IsItemIn Split file name item = IsSplitItemFor file name item
+abbrev pub item_form : Form → ItemForm
+item_form Alone = alone_form
+item_form Linked = linked_form
+item_form Split = split_form
 
 abbrev pub AreItemsIn : Form → (file : List ℕ) (names : List (List ℕ)) → Proof → Type 0
-AreItemsIn form file names p = AllZip (IsItemIn form file) names p.items
+AreItemsIn form file names p = AreItemsBy (item_form form) file names p
 
--- the first fault of a name, where its function stands by itself
-abbrev pub IsFaultAlone : (file name : List ℕ) → LinkWhy → Type 0
-IsFaultAlone file name (link.Outside why) = IsFirst file name why
-IsFaultAlone file name (link.Recursive a) = ⊥
-
--- the first fault of a name
-abbrev pub IsFaultIn : Form → (file name : List ℕ) → LinkWhy → Type 0
-IsFaultIn Alone file name why = IsFaultAlone file name why
-IsFaultIn Linked file name why = IsLinkFirst file name why
-IsFaultIn Split file name why = IsFaultAlone file name why
-
--- the first of the names with a fault
 abbrev pub IsRefusedIn : Form → (file : List ℕ) (names : List (List ℕ)) → ℕ → LinkWhy → Type 0
-IsRefusedIn form file names number why = IsFirstWith LinkWhy (IsFaultIn form file) (λ name. (item : Item) × IsItemIn form file name item) names number why
+IsRefusedIn form file names number why = IsRefusedBy (item_form form) file names number why
 
 -- the version of the text that is written
 abbrev pub version_in : Form → Version
-version_in Alone = version_1
-version_in Linked = version_3
-version_in Split = version_4
+version_in form = (item_form form).version
 
 -- What the command comes to, where the ELF file has these bytes.
 abbrev pub DecompileGives : Form → (file : List ℕ) (names : List (List ℕ)) → DecompileAnswer → Type 0

@@ -18,8 +18,9 @@ use Rattle.code_runs.proofs.WordLemmas.{program-code}
 use Rattle.code_runs.proofs.Flows.{no-fault, no-forest-fault, no-two-entries}
 use Rattle.decompiler.specs.Names.{Spells, StandsFor}
 use Rattle.decompiler.specs.Faults.{IsFirst, Missing, Doubled, InCode, InCycle, InLoop}
-use Rattle.decompiler.specs.Listing.{IsRefused}
-use Rattle.decompiler.specs.Refusals.{IsFaultOf}
+use Rattle.decompiler.specs.Listing.{IsRefusedBy, alone_form}
+use Rattle.decompiler.specs.Refusals.{IsFaultBy}
+use Rattle.call_graph.specs.declared.fault.LinkWhy.TheVariants as link
 use Rattle.path_walk.specs.declared.proof.DecompileFault.{DecompileFault}
 use Rattle.path_walk.specs.declared.proof.DecompileFault.TheVariants.{Refused}
 use Rattle.self_test.specs.Start.{file_of, function_name}
@@ -75,9 +76,9 @@ only-name n name (suc k) e = absurd (cc)
 
 -- no name is refused where the program's function is the only one
 pub not-refused : (number size : ℕ) (names : List (List ℕ)) (fault : DecompileFault) (k : ℕ) (why : Outside) → size ≤ 600 → names ≡ function_name ∷ []
-    → fault ≡ Refused k why → IsFaultOf (file_of number size) names fault → ⊥
+    → fault ≡ Refused k why → IsFaultBy alone_form (file_of number size) names fault → ⊥
 not-refused number size names fault k why small are is h =
     let file : List ℕ = file_of number size in
-    let r : IsRefused file names k why = subst (IsFaultOf file names) is h in
+    let r : IsRefusedBy alone_form file names k (link.Outside why) = subst (IsFaultBy alone_form file names) is h in
     let name : r.name ≡ function_name = only-name function_name r.name k ((λ i. slice_get (sym are i) k) ∙ r.at) in
     in-fragment number size why small (subst (λ n. IsFirst file n why) name r.first)

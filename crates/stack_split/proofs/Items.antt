@@ -46,13 +46,13 @@ use Rattle.path_walk.specs.Split.{IsSplitItem, split}
 use Rattle.path_walk.specs.declared.item.Item.{Item}
 use Rattle.path_walk.proofs.PartLimits.{part-printed}
 use Rattle.path_walk.proofs.SplitParts.{made-split, set-split}
-use Rattle.decompiler.specs.Listing.{AreDefsAlone, ListsWith}
+use Rattle.decompiler.specs.Listing.{AreDefsOf, Lists}
 use Rattle.decompiler.specs.Names.{StandsFor}
 use Rattle.decompiler.proofs.CodeListed.{bytes_are, ranges_small, registers_are}
-use Rattle.decompiler.proofs.Definitions.{defs_alone}
+use Rattle.decompiler.proofs.Definitions.{defs-of-one, defs_alone, entry-alone}
 use Rattle.decompiler.proofs.Fragment.{in_fragment}
 use Rattle.decompiler.proofs.PartsListed.{defs_are}
-use Rattle.stack_split.specs.Listing.{AreTwo, IsSplitItemFor}
+use Rattle.stack_split.specs.Listing.{IsSplitItemFor, split_form}
 use Rattle.stack_offsets.specs.SplitExact.{UsesSplit}
 use Rattle.stack_split.specs.inner.Accesses.{AreStackAccesses}
 
@@ -64,6 +64,9 @@ uses-split code e addrs second are a node true is = inl (refl, ((are a).0 (in-co
 uses-split code e addrs second are a node false is = inr (refl, λ access. let there = sym is ∙ in-true second a ((are a).1 (node, access)) in cc)
 
 -- ---- the function in its context
+
+abbrev function_in : ℕ → GraphOf → ForestOf → List ℕ → List Part → Member
+function_in e g f second parts = record { at = e; graph = g; forest = f; context = context_of (split g second parts) }
 
 module _ (code : Bytes) (e : ℕ) (g : GraphOf) (f : ForestOf) (second : List ℕ) (parts : List Part) (bytes : AreBytes code) (graph : IsGraphOf false code e g) (forest : IsForestOf g f)
     (order : AreParts (flow_of g f (context_of (split g second parts))) (number_of f) parts) (ranges : List Range) (whole : AreCodeOf g ranges) (name : List ℕ)
@@ -98,7 +101,7 @@ module _ (code : Bytes) (e : ℕ) (g : GraphOf) (f : ForestOf) (second : List �
     within = code_in false g (record { code = code; entry = e; bytes = bytes; is = graph }) ranges whole
 
     abbrev the_member : Member
-    the_member = record { at = e; graph = g; forest = f; context = context_of (split g second parts) }
+    the_member = function_in e g f second parts
 
     -- the function is the one of the group
     member : AreMembers false code (the_member ∷ []) the_member the_group
@@ -120,14 +123,14 @@ module _ (code : Bytes) (e : ℕ) (g : GraphOf) (f : ForestOf) (second : List �
 
     -- ---- what is told of the group
 
-    pub lists-split : ListsWith AreTwo code e g name the_group
+    pub lists-split : Lists split_form code e (the_member ∷ []) name the_group
     lists-split = record {
       named = refl;
       entry = lists-entry false code e g f (context_of (split g second parts)) graph forest order name ranges;
       bytes = bytes_are false g (record { code = code; entry = e; bytes = bytes; is = graph }) ranges whole;
       registers = registers_are false g (record { code = code; entry = e; bytes = bytes; is = graph });
       memory = refl;
-      defs = defs_are false g (record { code = code; entry = e; bytes = bytes; is = graph }) f forest (context_of (split g second parts)) order;
+      defs = defs-of-one the_member (map (part_def the_flow) parts) (defs_are false g (record { code = code; entry = e; bytes = bytes; is = graph }) f forest (context_of (split g second parts)) order);
     }
 
     pub printed-split : IsName name → IsGroupIn version_4 the_group
@@ -162,14 +165,14 @@ module _ (file name : List ℕ) (e : ℕ) (g : GraphOf) (f : ForestOf) (second :
         }
 
     pub made-alone : AreStackAccesses (code_of_file file) e g.addrs second
-        → AreDefsAlone (UsesSplit (code_of_file file) e) (code_of_file file) e g (group_of (flow_of g f (context_of (split g second parts))) name ranges parts)
+        → AreDefsOf false (UsesSplit (code_of_file file) e) (code_of_file file) (function_in e g f second parts ∷ []) (group_of (flow_of g f (context_of (split g second parts))) name ranges parts)
     made-alone are =
         defs_alone (UsesSplit (code_of_file file) e) (code_of_file file) e g f (context_of (split g second parts)) (group_of (flow_of g f (context_of (split g second parts))) name ranges parts) graph forest order refl refl refl
         (λ n lt. uses-split (code_of_file file) e g.addrs second are (get_or g.addrs n 0) (node_at g.addrs n lt) (list_any (λ b. eqb b (get_or g.addrs n 0)) second) refl) refl
 
     pub gains-split : AreStackAccesses (code_of_file file) e g.addrs second → Returning (FirstReturnsIn (UsesSplit (code_of_file file) e)) file (group_of (flow_of g f (context_of (split g second parts))) name ranges parts)
     gains-split are =
-        member-gains file bytes (record { at = e; graph = g; forest = f; context = context_of (split g second parts) }) (group_of (flow_of g f (context_of (split g second parts))) name ranges parts)
+        member-gains file bytes (function_in e g f second parts) (group_of (flow_of g f (context_of (split g second parts))) name ranges parts)
         (member (code_of_file file) e g f second parts bytes graph forest order ranges whole name) (UsesSplit (code_of_file file) e)
         (λ n lt. uses-split (code_of_file file) e g.addrs second are (get_or g.addrs n 0) (node_at g.addrs n lt) (list_any (λ b. eqb b (get_or g.addrs n 0)) second) refl)
         (within (code_of_file file) e g f second parts bytes graph forest order ranges whole name)
@@ -180,11 +183,11 @@ split-is file name e g f second item stands named bytes graph forest are is = re
   entry = e;
   stands = stands;
   inside = in_fragment file name e g f stands graph forest;
-  graph = g;
-  reach = graph;
-  reached = is.reached;
-  lists = subst (ListsWith AreTwo (code_of_file file) e g name) (sym is.group) (lists-split (code_of_file file) e g f second is.parts bytes graph forest is.ordered item.group.code.ranges is.code name);
-  made = subst (AreDefsAlone (UsesSplit (code_of_file file) e) (code_of_file file) e g) (sym is.group) (made-alone file name e g f second is.parts bytes graph forest is.ordered item.group.code.ranges is.code are);
+  functions = function_in e g f second is.parts ∷ [];
+  are = entry-alone e;
+  reached = is.reached ∙ sym (zero-add (length g.addrs));
+  lists = subst (Lists split_form (code_of_file file) e (function_in e g f second is.parts ∷ []) name) (sym is.group) (lists-split (code_of_file file) e g f second is.parts bytes graph forest is.ordered item.group.code.ranges is.code name);
+  made = subst (AreDefsOf false (UsesSplit (code_of_file file) e) (code_of_file file) (function_in e g f second is.parts ∷ [])) (sym is.group) (made-alone file name e g f second is.parts bytes graph forest is.ordered item.group.code.ranges is.code are);
   accepted = subst (λ (t : GroupTree). IsAcceptedBy IsExchanged file (record { group = t; lines = map line_tree item.lines })) (sym is.group)
       (accepted-split file name e g f second is.parts bytes graph forest is.ordered item.group.code.ranges is.code (map line_tree item.lines) (subst (λ (t : GroupTree). AreClosedIn Four t (map line_tree item.lines)) is.group is.lines));
   exact = exact-of (FirstReturnsIn (UsesSplit (code_of_file file) e)) file (group_tree item.group) gains;

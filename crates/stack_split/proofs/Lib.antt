@@ -1,3 +1,2 @@
 pub mod AccessLemmas
 pub mod Items
-pub mod SplitAccepted

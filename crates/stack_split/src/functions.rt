@@ -5,10 +5,11 @@ ghost use Rattle.rv_words.specs.Bytes.{AreBytes, Bytes};
 ghost use Rattle.elf_image.specs.Image.{code_in, image_of};
 ghost use Rattle.group_text.specs.Limits.{IsName};
 ghost use Rattle.flow_graph.specs.Graph.{IsGraphOf};
+ghost use Rattle.decompiler.specs.Listing.{AreItemsBy};
 ghost use Rattle.decompiler.specs.Names.{StandsFor};
+ghost use Rattle.decompiler.specs.Refusals.{IsFaultBy};
 ghost use Rattle.decompiler.specs.inner.Functions.{IsNoFunction, IsNoItem};
-ghost use Rattle.stack_split.specs.Listing.{AreSplitItemsFor, IsSplitItemFor};
-ghost use Rattle.stack_split.specs.Refusals.{IsSplitFaultOf};
+ghost use Rattle.stack_split.specs.Listing.{IsSplitItemFor, split_form};
 ghost use Rattle.stack_split.specs.inner.Accesses.{AreStackAccesses};
 
 use decompiler::{address_of, law_of_bytes, outside_of, refusal};
@@ -26,10 +27,10 @@ pub fn split(alloc: Global, image: &Image, names: &List<Text>) -> Result<Proof, 
     requires { All IsName names.now }
     ensures items { (file : Items ℕ)
         → image.now ≡ image_of file
-        → IfOk result (AreSplitItemsFor file names.now) }
+        → IfOk result (AreItemsBy split_form file names.now) }
     ensures refused { (file : Items ℕ)
         → image.now ≡ image_of file
-        → IfErr result (IsSplitFaultOf file names.now) }
+        → IfErr result (IsFaultBy split_form file names.now) }
 {
     let all = names.as_slice();
     let mut items = List::new(alloc);

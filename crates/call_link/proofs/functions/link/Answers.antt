@@ -1,37 +1,25 @@
-use Rattle.std.proofs.Common.{◌≡◌, ℕ, ◌<◌, List, sym, subst, length, get_or, take, ◌∙◌, ap, ◌+◌}
-use Rattle.std.specs.List.{AllZip}
-use Rattle.path_walk.specs.declared.item.Item.{Item}
-use Rattle.call_link.specs.declared.fault.LinkFault.{LinkFault}
-use Rattle.call_link.specs.Listing.{IsLinkedItemFor}
-use Rattle.call_link.specs.Refusals.{IsLinkFaultOf}
-use Rattle.call_link.specs.inner.Functions.{IsNoLinkedItem}
+use Rattle.std.proofs.Common.{sym, subst}
 use Rattle.std.proofs.lemmas.List.Elements.{All-get_or}
 use Rattle.group_text.specs.Limits.{IsName}
-use Rattle.decompiler.proofs.InOrder.{zip_more}
-use Rattle.call_link.proofs.LinkedAccepted.{refused-linked}
+use Rattle.decompiler.proofs.InOrder.{items-more, listed-at}
+use Rattle.call_link.specs.declared.fault.LinkFault.{LinkFault}
+use Rattle.call_link.specs.Listing.{linked_form}
+use Rattle.call_link.specs.Refusals.{IsLinkFaultOf}
+use Rattle.call_link.proofs.Items.{none-linked-listed}
 use Rattle.call_link.proofs.functions.link.Goals as goal
 
 pub returns-in-Err-clause-refused : goal.returns-in-Err-clause-refused
 returns-in-Err-clause-refused c file is =
-    let all : c.as_slice-all.result.now ≡ c.args.names.now = c.as_slice-all.ensures in
-    let low : c.names.i < length c.args.names.now = subst (λ (ns : List (List ℕ)). c.names.i < length ns) all c.names-test.true in
-    let name : c.index-all-i.result ≡ get_or c.args.names.now c.names.i c.index-all-i.result = c.index-all-i.is ∙ ap (λ (ns : List (List ℕ)). get_or ns c.names.i c.index-all-i.result) all in
+    let at = listed-at c.as_slice-all.result.now c.args.names.now c.names.i c.index-all-i.result c.as_slice-all.ensures c.names-test.true c.index-all-i.is in
     subst (λ (x : LinkFault). IsLinkFaultOf file c.args.names.now x) (sym c.refusal.ensures)
-    (refused-linked file c.args.names.now c.names.i c.index-all-i.result c.names.items c.in-Err.why low (c.names.invariant file is)
-    (subst (λ (n : List ℕ). IsNoLinkedItem file n c.in-Err.why) name (c.in-Err.ensures.none file is)))
+    (none-linked-listed file c.args.names.now c.names.i c.index-all-i.result c.names.items at (c.names.invariant file is) c.in-Err.why (c.in-Err.ensures.none file is))
 
 pub names-preserved : goal.names-preserved
 names-preserved c file is =
-    let all : c.as_slice-all.result.now ≡ c.args.names.now = c.as_slice-all.ensures in
-    let low : c.names.i < length c.args.names.now = subst (λ (ns : List (List ℕ)). c.names.i < length ns) all c.names-test.true in
-    let name : c.index-all-i.result ≡ get_or c.args.names.now c.names.i c.index-all-i.result = c.index-all-i.is ∙ ap (λ (ns : List (List ℕ)). get_or ns c.names.i c.index-all-i.result) all in
-    subst (λ (items : List Item). AllZip (IsLinkedItemFor file) (take (c.names.i + 1) c.args.names.now) items) (sym c.in_ok-push-in-Ok.ensures.ok)
-    (zip_more (IsLinkedItemFor file) c.args.names.now c.names.i c.index-all-i.result c.names.items c.in-Ok.item low (c.names.invariant file is)
-    (subst (λ (n : List ℕ). IsLinkedItemFor file n c.in-Ok.item) name (c.in-Ok.ensures.item file is)))
+    let at = listed-at c.as_slice-all.result.now c.args.names.now c.names.i c.index-all-i.result c.as_slice-all.ensures c.names-test.true c.index-all-i.is in
+    items-more linked_form file c.args.names.now c.names.i c.index-all-i.result c.names.items at (c.names.invariant file is) c.in-Ok.item _ (c.in-Ok.ensures.item file is) c.in_ok-push-in-Ok.ensures.ok
 
 pub item_for-requires : goal.item_for-requires
 item_for-requires c =
-    let all : c.as_slice-all.result.now ≡ c.args.names.now = c.as_slice-all.ensures in
-    let low : c.names.i < length c.args.names.now = subst (λ (ns : List (List ℕ)). c.names.i < length ns) all c.names-test.true in
-    let name : c.index-all-i.result ≡ get_or c.args.names.now c.names.i c.index-all-i.result = c.index-all-i.is ∙ ap (λ (ns : List (List ℕ)). get_or ns c.names.i c.index-all-i.result) all in
-    subst IsName (sym name) (All-get_or IsName c.args.names.now c.names.i c.index-all-i.result low c.requires)
+    let at = listed-at c.as_slice-all.result.now c.args.names.now c.names.i c.index-all-i.result c.as_slice-all.ensures c.names-test.true c.index-all-i.is in
+    subst IsName (sym at.1) (All-get_or IsName c.args.names.now c.names.i c.index-all-i.result at.0 c.requires)
