@@ -5,4 +5,8 @@ mod checking;
 mod evaluating;
 mod numbered;
 mod reading;
+mod rows;
 mod terms;
+mod theorems;
+mod walking;
+mod ways;

@@ -1,15 +1,15 @@
 //! A file and a text have their verdict: texts of each version, and the rules of the later ones.
 //! Further texts of the first are cases of the commands.
 
+use super::rows::each;
 use call_link::check_linked;
 use checker::{Verdict, check_bytes};
-use rv_words::{Bytes, NoMemory};
+use rv_words::Bytes;
 use stack_split::check_split;
 use std::alloc::Global;
-use std::test::Fail;
 
 /// An ELF file with `add x10,x10,x11` and `jalr x0,0(x1)` at 0x10000.
-static ELF: [u8; 128] = [
+pub static ELF: [u8; 128] = [
     0x7f, 0x45, 0x4c, 0x46, 2, 1, 1, 0, 0, 0, 0, 0, 0, 0, 0, 0, 2, 0, 0xf3, 0, 1, 0, 0, 0, 0, 0, 1,
     0, 0, 0, 0, 0, 0x40, 0, 0, 0, 0, 0, 0, 0, 0, 0, 0, 0, 0, 0, 0, 0, 0, 0, 0, 0, 0x40, 0, 0x38, 0,
     1, 0, 0, 0, 0, 0, 0, 0, 1, 0, 0, 0, 5, 0, 0, 0, 0x78, 0, 0, 0, 0, 0, 0, 0, 0, 0, 1, 0, 0, 0, 0,
@@ -18,16 +18,16 @@ static ELF: [u8; 128] = [
 ];
 
 /// First lines of texts.
-const V1: &str = "mcproof 1\n";
+pub const V1: &str = "mcproof 1\n";
 
-const V3: &str = "mcproof 3\n";
+pub const V3: &str = "mcproof 3\n";
 
 const V4: &str = "mcproof 4\n";
 /// The last line.
-const END: &str = "end\n";
+pub const END: &str = "end\n";
 
 /// A function of that code, up to the line that closes it: x10 is the sum, and it returns.
-const FUNCTION: &str = "group f\n\
+pub const FUNCTION: &str = "group f\n\
 regs 1 10 11\n\
 mems 0\n\
 code (0x10000 3305b50067800000)\n\
@@ -44,7 +44,7 @@ frame 4 facts pre (0x10004 (1 v0) (10 v3) (11 v2) ;) code (0x10004 67800000) pos
 compose 3 5 facts (is v3 (add v1 v2)) pre (0x10000 (1 v0) (10 v1) (11 v2) ;) code all post ((and (add v0 0x0) 0xfffffffffffffffe) (1 v0) (10 v3) (11 v2) ;)\n";
 
 /// The line that closes it.
-const LOOP: &str = "loop 0 6\n";
+pub const LOOP: &str = "loop 0 6\n";
 
 /// The head of a group.
 const HEAD: &str = "group f\n\
@@ -91,7 +91,9 @@ axiom 0x10000 0xa5b023 next facts (so (in8 m0 (add v1 0x0))) pre (0x10000 (10 v0
 frame 0 facts (so (in8 m0 (add v1 0x0))) pre (0x10000 (10 v0) (11 v1) ; m0 m1) code (0x10000 23b0a500) post (0x10004 (10 v0) (11 v1) ; (st8 m0 (add v1 0x0) v0) m1)\n";
 
 /// Which version's texts are judged, the parts of a text, and the verdict.
-static VERDICTS: [(u8, &[&str], Verdict); 36] = [
+type Judged = (u8, &'static [&'static str], Verdict);
+
+static VERDICTS: [Judged; 36] = [
     (
         1,
         &[V1, FUNCTION, LOOP, END],
@@ -516,30 +518,30 @@ static VERDICTS: [(u8, &[&str], Verdict); 36] = [
     ),
 ];
 
-/// A text of these parts.
-fn text(alloc: Global, parts: &[&str]) -> Result<Bytes, NoMemory> {
+/// A text of these parts, while there is memory.
+pub fn text_of(alloc: Global, parts: &[&str]) -> Bytes {
     let mut text = Bytes::new(alloc);
     for part in parts {
-        text.extend_from_slice(part.as_bytes())?;
+        let _done = text.extend_from_slice(part.as_bytes());
     }
-    Ok(text)
+    text
 }
 
-/// The verdict on it among the texts of a version.
-fn verdict(alloc: Global, version: u8, parts: &[&str]) -> Result<Verdict, NoMemory> {
-    let text = text(alloc, parts)?;
-    Ok(match version {
-        3 => check_linked(alloc, &ELF, text.as_slice()),
-        4 => check_split(alloc, &ELF, text.as_slice()),
-        _ => check_bytes(alloc, &ELF, text.as_slice()),
-    })
+/// The verdict on a text among those of a version.
+fn verdict(alloc: Global, version: u8, text: &[u8]) -> Verdict {
+    match version {
+        3 => check_linked(alloc, &ELF, text),
+        4 => check_split(alloc, &ELF, text),
+        _ => check_bytes(alloc, &ELF, text),
+    }
+}
+
+fn is_judged(alloc: Global, (version, parts, wanted): Judged) -> bool {
+    let text = text_of(alloc, parts);
+    verdict(alloc, version, text.as_slice()) == wanted
 }
 
 #[test]
-fn texts_have_their_verdicts(rt: HostRuntime) -> Result<(), Fail> {
-    for &(version, parts, wanted) in &VERDICTS {
-        let found = verdict(rt.alloc(), version, parts)?;
-        assert!(rt; found == wanted);
-    }
-    Ok(())
+fn texts_have_their_verdicts(rt: HostRuntime) {
+    assert!(rt; each(rt.alloc(), &VERDICTS, is_judged));
 }

@@ -1,13 +1,15 @@
 //! The outcomes of small functions, and the first ill-formed definition of a group.
 
+use super::rows::each;
+use loop_rule::{Leaf, leaves};
 use proof_text::Reader;
-use rv_words::{ByteMap, List, NoMemory, Width};
+use rv_words::{ByteMap, List, Width};
 use std::alloc::Global;
-use std::test::Fail;
 use tailrec_lang::{
     Args, BadDef, Exit, Group, Outcome, def_at, eval, exits_of, has_few_needs, results_at,
     well_formed,
 };
+use word_terms::Word;
 
 /// Two definitions. The first counts v1 down to 0, adds each of its values to v0 and stores the sum
 /// at 0x1000. The second needs that v1 is neither 8 nor 7, calls the first, and returns.
@@ -44,26 +46,19 @@ enum Ending {
     Turns,
 }
 
-/// 5 and the count, and a memory with eight zeros from 0x1000 on.
-fn arguments(alloc: Global, count: u64) -> Result<Args, NoMemory> {
+/// 5 and the count, and a memory with eight zeros from 0x1000 on, while there is memory.
+fn arguments(alloc: Global, count: u64) -> Args {
     let mut memory = ByteMap::new(alloc);
-    memory.place_zeros(0x1000, 8)?;
+    let _zeros = memory.place_zeros(0x1000, 8);
     let mut mems = List::new(alloc);
-    mems.push(memory)?;
-    Ok(Args {
-        words: List::from_slice(alloc, &[5, count])?,
-        mems,
-    })
+    let _mem = mems.push(memory);
+    let mut words = List::new(alloc);
+    let _words = words.extend_from_slice(&[5, count]);
+    Args { words, mems }
 }
 
 /// How the definition ends, if it can be evaluated.
-fn outcome(
-    alloc: Global,
-    g: &Group,
-    def: u32,
-    args: &Args,
-    turns: u64,
-) -> Result<Option<Outcome>, NoMemory> {
+fn outcome(alloc: Global, g: &Group, def: u32, args: &Args, turns: u64) -> Option<Outcome> {
     if g.defs.len() < 1 << 32
         && well_formed(g).is_ok()
         && has_few_needs(g)
@@ -71,9 +66,9 @@ fn outcome(
         && args.words.len() == g.regs.len()
         && args.mems.len() == g.mems as usize
     {
-        Ok(Some(eval(alloc, g, def, args, turns)?))
+        eval(alloc, g, def, args, turns).ok()
     } else {
-        Ok(None)
+        None
     }
 }
 
@@ -104,36 +99,28 @@ fn is_so(outcome: &Outcome, ending: Ending) -> bool {
     }
 }
 
+/// A definition, a count and turns, and how it ends.
+type Run = ((u32, u64, u64), Ending);
+
 /// Whether the definition ends in that way on 5 and the count.
-fn ends_so(
-    alloc: Global,
-    g: &Group,
-    (def, count, turns): (u32, u64, u64),
-    ending: Ending,
-) -> Result<bool, NoMemory> {
-    let args = arguments(alloc, count)?;
-    match outcome(alloc, g, def, &args, turns)? {
-        Some(outcome) => Ok(is_so(&outcome, ending)),
-        None => Ok(false),
+fn ends_so(alloc: Global, g: &Group, ((def, count, turns), ending): Run) -> bool {
+    let args = arguments(alloc, count);
+    match outcome(alloc, g, def, &args, turns) {
+        Some(outcome) => is_so(&outcome, ending),
+        None => false,
     }
 }
 
-/// Whether it does so in the group of a text.
-fn text_ends_so(
-    alloc: Global,
-    text: &[u8],
-    called: (u32, u64, u64),
-    ending: Ending,
-) -> Result<bool, NoMemory> {
-    let mut reader = Reader::new(text);
+/// Whether it does so in the group of the text.
+fn text_ends_so(alloc: Global, run: Run) -> bool {
+    let mut reader = Reader::new(TEXT.as_bytes());
     match reader.group(alloc) {
-        Ok(Some(group)) => ends_so(alloc, &group, called, ending),
-        _ => Ok(false),
+        Ok(Some(group)) => ends_so(alloc, &group, run),
+        _ => false,
     }
 }
 
-/// Definitions, counts and turns, and how they end.
-static RUNS: [((u32, u64, u64), Ending); 7] = [
+static RUNS: [Run; 7] = [
     (
         (0, 3, 4),
         Ending::Done {
@@ -164,17 +151,10 @@ static RUNS: [((u32, u64, u64), Ending); 7] = [
     ((1, 7, 9), Ending::SideFalse(1)),
 ];
 
-#[test]
-fn functions_have_their_outcomes(rt: HostRuntime) -> Result<(), Fail> {
-    for &(called, ending) in &RUNS {
-        let ended = text_ends_so(rt.alloc(), TEXT.as_bytes(), called, ending)?;
-        assert!(rt; ended);
-    }
-    Ok(())
-}
-
 /// What stands in the text, what is put in its place, and the first ill-formed definition.
-static CHANGES: [(&str, &str, Option<u32>); 4] = [
+type Change = (&'static str, &'static str, Option<u32>);
+
+static CHANGES: [Change; 4] = [
     ("call 0", "call 0", None),
     ("call 0", "call 1", Some(1)),
     ("call 0", "call 2", Some(1)),
@@ -194,29 +174,82 @@ fn is_first_bad(g: &Group, bad: Option<u32>) -> bool {
 
 /// Whether the first definition leads to an address and the second returns, and there is no third.
 fn has_exits(g: &Group) -> bool {
-    exits_of(g, 0) == [Exit::At(0x10004)].as_slice()
-        && exits_of(g, 1) == [Exit::Ret].as_slice()
-        && results_at(g, Exit::At(0x10004)) == 2
-        && results_at(g, Exit::Ret) == 3
-        && def_at(g, 1).is_some()
-        && def_at(g, 2).is_none()
+    let first = exits_of(g, 0) == [Exit::At(0x10004)].as_slice();
+    let second = exits_of(g, 1) == [Exit::Ret].as_slice();
+    let results = (results_at(g, Exit::At(0x10004)) == 2) & (results_at(g, Exit::Ret) == 3);
+    first & second & results & def_at(g, 1).is_some() & def_at(g, 2).is_none()
 }
 
-/// Whether that is the first ill-formed definition of a changed text.
-fn is_ill_formed(alloc: Global, old: &str, new: &str, bad: Option<u32>) -> Result<bool, Fail> {
-    let text = TEXT.replace(alloc, old, new)?;
-    let mut reader = Reader::new(text.as_bytes());
+/// Whether that is the first ill-formed definition of a text.
+fn text_is_bad(alloc: Global, text: &[u8], bad: Option<u32>) -> bool {
+    let mut reader = Reader::new(text);
     match reader.group(alloc) {
-        Ok(Some(group)) => Ok(is_first_bad(&group, bad)),
-        _ => Ok(false),
+        Ok(Some(group)) => is_first_bad(&group, bad),
+        _ => false,
+    }
+}
+
+/// .. of the changed text.
+fn is_ill_formed(alloc: Global, (old, new, bad): Change) -> bool {
+    match TEXT.replace(alloc, old, new) {
+        Ok(text) => text_is_bad(alloc, text.as_bytes(), bad),
+        Err(_) => false,
+    }
+}
+
+/// A definition, and of each of its leaves how many facts lead there, and the program counter where
+/// that is a constant.
+type Ends = (u32, &'static [(usize, Option<u64>)]);
+
+static LEAVES: [Ends; 3] = [
+    (0, &[(1, Some(0x10004)), (4, Some(0x10000))]),
+    (1, &[(3, None)]),
+    (2, &[]),
+];
+
+fn constant(word: &Word) -> Option<u64> {
+    match word {
+        Word::Const(n) => Some(*n),
+        _ => None,
+    }
+}
+
+/// Whether these are the leaves.
+fn are_leaves(found: &[Leaf], wanted: &[(usize, Option<u64>)]) -> bool {
+    if found.len() != wanted.len() {
+        return false;
+    }
+    for (i, leaf) in found.iter().enumerate() {
+        let Some(&(facts, pc)) = wanted.get(i) else {
+            return false;
+        };
+        if leaf.facts.len() != facts || constant(&leaf.post.pc) != pc {
+            return false;
+        }
+    }
+    true
+}
+
+/// Whether these are the leaves of a group's definition.
+fn has_leaves(alloc: Global, g: &Group, (def, wanted): Ends) -> bool {
+    match leaves(alloc, g, def) {
+        Ok(found) => are_leaves(found.as_slice(), wanted),
+        Err(_) => false,
+    }
+}
+
+/// .. of the text's.
+fn text_has_leaves(alloc: Global, row: Ends) -> bool {
+    let mut reader = Reader::new(TEXT.as_bytes());
+    match reader.group(alloc) {
+        Ok(Some(group)) => has_leaves(alloc, &group, row),
+        _ => false,
     }
 }
 
 #[test]
-fn the_first_ill_formed_definition(rt: HostRuntime) -> Result<(), Fail> {
-    for &(old, new, bad) in &CHANGES {
-        let is_first = is_ill_formed(rt.alloc(), old, new, bad)?;
-        assert!(rt; is_first);
-    }
-    Ok(())
+fn functions_have_their_outcomes(rt: HostRuntime) {
+    assert!(rt; each(rt.alloc(), &RUNS, text_ends_so));
+    assert!(rt; each(rt.alloc(), &CHANGES, is_ill_formed));
+    assert!(rt; each(rt.alloc(), &LEAVES, text_has_leaves));
 }

@@ -6,15 +6,17 @@ ghost use Rattle.group_text.specs.Limits.{IsGroupIn};
 ghost use Rattle.group_text.specs.Version.{version_of};
 ghost use Rattle.group_text.specs.declared.version.Version.TheVariants.{One};
 
+use super::rows::each;
 use proof_text::{Reader, TextFault, put_end, put_group, put_head, put_line};
 use rv_words::{Bytes, NoMemory};
 use std::alloc::Global;
-use std::test::Fail;
 use tailrec_lang::Group;
 
-/// Texts, how many lines their groups and proofs take, and the line that is refused after them;
-/// none where the text ends there.
-static TEXTS: [(&[u8], u64, Option<u64>); 22] = [
+/// A text, how many lines its groups and proofs take, and the line that is refused after them; none
+/// where the text ends there.
+type Text = (&'static [u8], u64, Option<u64>);
+
+static TEXTS: [Text; 22] = [
     (b"mcproof 1\nend\n", 0, None),
     (
         b"mcproof 1\ngroup f.1\nregs 5 31\nmems 1\ncode (0x1000 1300f0) (0x2000 ff)\ndef 0xfffffffffffffffe\nagain v0 ; m0\ndef 0x1000 0x10a0 ret 0x0\nif (geu v0 v1)\ncall 0 2 v0 v1 ; (st8 m0 0x1000 (sub v2 0x1))\narm\nleave 1 0xab ;\narm\nlet (sub v2 0x1)\nletm (st8 m0 0x1000 (sub v2 0x1))\nneed (not (in1 m0 v2))\nagain (sx2 v3) (ld4 m1 0x1000) ; m1\nelse\nlet (sub v2 0x1)\nletm (st8 m0 0x1000 (sub v2 0x1))\nneed (not (in1 m0 v2))\nagain (sx2 v3) (ld4 m1 0x1000) ; m1\ngroup ~\nregs\nmems 0\ncode\ndef 0xfffffffffffffffe\nagain v0 ; m0\nend\n",
@@ -208,7 +210,7 @@ static BAD: [&[u8]; 74] = [
 
 /// What stands behind the group: how many lines are read with its proof, and the line that is
 /// refused after these; none where the text ends there.
-static BEHIND: [(&[u8], u64, Option<u64>); 10] = [
+static BEHIND: [Text; 10] = [
     (b"forget 0\nloop 0\nend\n", 9, None),
     (b"end\n", 7, None),
     (b"forget 0\ndef 0x0\nagain ;\nend\n", 8, Some(9)),
@@ -230,6 +232,14 @@ enum Read {
     Refused(u64),
 }
 
+/// What comes of a line that was printed, or not for want of memory.
+fn done(printed: Result<(), NoMemory>) -> Read {
+    match printed {
+        Ok(()) => Read::More,
+        Err(_) => Read::Refused(0),
+    }
+}
+
 fn refused(fault: TextFault) -> Read {
     match fault {
         TextFault::Bad(line) => Read::Refused(line),
@@ -238,112 +248,99 @@ fn refused(fault: TextFault) -> Read {
 }
 
 /// Prints the next line of the group's proof.
-fn copy_line(
-    alloc: Global,
-    reader: &mut Reader<'_>,
-    group: &Group,
-    out: &mut Bytes,
-) -> Result<Read, NoMemory>
+fn copy_line(alloc: Global, reader: &mut Reader<'_>, group: &Group, out: &mut Bytes) -> Read
     requires first { reader.old.version ≡ One }
     requires fits { IsGroupIn (version_of reader.old.version) (group_tree group.now) }
     ensures { reader.new.version ≡ One }
 {
     match reader.spelled_line(alloc, group) {
-        Ok(Some(line)) => {
-            let line = line.with_own(alloc, &group.code)?;
-            put_line(out, group, &line)?;
-            Ok(Read::More)
-        }
-        Ok(None) => Ok(Read::End),
-        Err(fault) => Ok(refused(fault)),
+        Ok(Some(line)) => match line.with_own(alloc, &group.code) {
+            Ok(line) => done(put_line(out, group, &line)),
+            Err(_) => Read::Refused(0),
+        },
+        Ok(None) => Read::End,
+        Err(fault) => refused(fault),
     }
 }
 
 /// .. and those behind it.
-fn copy_lines(
-    alloc: Global,
-    reader: &mut Reader<'_>,
-    group: &Group,
-    out: &mut Bytes,
-) -> Result<Read, NoMemory>
+fn copy_lines(alloc: Global, reader: &mut Reader<'_>, group: &Group, out: &mut Bytes) -> Read
     requires first { reader.old.version ≡ One }
     requires fits { IsGroupIn (version_of reader.old.version) (group_tree group.now) }
     ensures { reader.new.version ≡ One }
 {
     for _ in 0..100 {
-        match copy_line(alloc, reader, group, out)? {
+        match copy_line(alloc, reader, group, out) {
             Read::More => {}
-            end => return Ok(end),
+            end => return end,
         }
     }
-    Ok(Read::Refused(0))
+    Read::Refused(0)
 }
 
 /// Prints the next group and the lines of its proof, or the end.
-fn copy_group(alloc: Global, reader: &mut Reader<'_>, out: &mut Bytes) -> Result<Read, NoMemory>
+fn copy_group(alloc: Global, reader: &mut Reader<'_>, out: &mut Bytes) -> Read
     requires { reader.old.version ≡ One }
     ensures { reader.new.version ≡ One }
 {
     match reader.group(alloc) {
         Ok(Some(group)) => {
-            put_group(out, &group)?;
-            match copy_lines(alloc, reader, &group, out)? {
-                Read::End => Ok(Read::More),
-                refused => Ok(refused),
+            let _printed = put_group(out, &group);
+            match copy_lines(alloc, reader, &group, out) {
+                Read::End => Read::More,
+                refused => refused,
             }
         }
         Ok(None) => {
-            put_end(out)?;
-            Ok(Read::End)
+            let _printed = put_end(out);
+            Read::End
         }
-        Err(fault) => Ok(refused(fault)),
+        Err(fault) => refused(fault),
     }
 }
 
 /// Prints a whole text. The number of the line that is refused, if one is.
-fn copy(alloc: Global, reader: &mut Reader<'_>, out: &mut Bytes) -> Result<Option<u64>, NoMemory>
+fn copy(alloc: Global, reader: &mut Reader<'_>, out: &mut Bytes) -> Option<u64>
     requires { reader.old.version ≡ One }
 {
-    put_head(out)?;
+    let _printed = put_head(out);
     for _ in 0..4 {
-        match copy_group(alloc, reader, out)? {
+        match copy_group(alloc, reader, out) {
             Read::More => {}
-            Read::End => return Ok(None),
-            Read::Refused(line) => return Ok(Some(line)),
+            Read::End => return None,
+            Read::Refused(line) => return Some(line),
         }
     }
-    Ok(Some(0))
+    Some(0)
 }
 
-/// Whether a text of two parts is read so, and printed as it stands where it ends well.
-fn is_read(
-    alloc: Global,
-    parts: [&[u8]; 2],
-    lines: u64,
-    bad: Option<u64>,
-) -> Result<bool, NoMemory> {
-    let mut text = Bytes::from_slice(alloc, parts[0])?;
-    text.extend_from_slice(parts[1])?;
-    let mut reader = Reader::new(text.as_slice());
+/// Whether a text is read so, and printed as it stands where it ends well.
+fn is_read(alloc: Global, text: &[u8], lines: u64, bad: Option<u64>) -> bool {
+    let mut reader = Reader::new(text);
     let mut out = Bytes::new(alloc);
-    let refused = copy(alloc, &mut reader, &mut out)?;
-    let is_same = bad.is_some() || out.as_slice() == text.as_slice();
-    Ok(refused == bad && reader.place() == lines && is_same)
+    let refused = copy(alloc, &mut reader, &mut out);
+    let is_same = bad.is_some() | (out.as_slice() == text);
+    is_same & (refused == bad) & (reader.place() == lines)
+}
+
+fn whole_is_read(alloc: Global, (text, lines, bad): Text) -> bool {
+    is_read(alloc, text, lines, bad)
+}
+
+/// Whether what stands behind the group is read so.
+fn behind_is_read(alloc: Global, (behind, lines, bad): Text) -> bool {
+    let mut text = Bytes::new(alloc);
+    let is_held = text.extend_from_slice(GROUP).is_ok() & text.extend_from_slice(behind).is_ok();
+    is_held & is_read(alloc, text.as_slice(), lines, bad)
+}
+
+fn line_is_refused(alloc: Global, line: &'static [u8]) -> bool {
+    behind_is_read(alloc, (line, 7, Some(8)))
 }
 
 #[test]
-fn texts_are_read_and_printed(rt: HostRuntime) -> Result<(), Fail> {
-    for &(text, lines, bad) in &TEXTS {
-        let is_so = is_read(rt.alloc(), [b"", text], lines, bad)?;
-        assert!(rt; is_so);
-    }
-    for &line in &BAD {
-        let is_so = is_read(rt.alloc(), [GROUP, line], 7, Some(8))?;
-        assert!(rt; is_so);
-    }
-    for &(bytes, lines, bad) in &BEHIND {
-        let is_so = is_read(rt.alloc(), [GROUP, bytes], lines, bad)?;
-        assert!(rt; is_so);
-    }
-    Ok(())
+fn texts_are_read_and_printed(rt: HostRuntime) {
+    assert!(rt; each(rt.alloc(), &TEXTS, whole_is_read));
+    assert!(rt; each(rt.alloc(), &BAD, line_is_refused));
+    assert!(rt; each(rt.alloc(), &BEHIND, behind_is_read));
 }
