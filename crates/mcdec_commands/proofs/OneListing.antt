@@ -1,5 +1,5 @@
 -- A file and names have one answer of `decompile`, of `link` and of `split` at most, but for how two entries are shown.
-use Rattle.std.proofs.Common.{◌≡◌, ℕ, zero, suc, ◌+◌, ◌<◌, ◌≤◌, nat_eq, ne_eqb, List, [], ◌∷◌, length, length-append, get_or, Some, Result, Ok, Err, false, eqb, refl, sym, ap, subst, ◌∙◌, ◌⊎◌, inl, inr, arith}
+use Rattle.std.proofs.Common.{Bool, ◌≡◌, ℕ, zero, suc, ◌+◌, ◌<◌, ◌≤◌, nat_eq, ne_eqb, List, [], ◌∷◌, length, length-append, get_or, Some, Result, Ok, Err, false, eqb, refl, sym, ap, subst, ◌∙◌, ◌⊎◌, inl, inr, arith}
 use Rattle.std.specs.Prelude.{slice_get, unwrap_or}
 use Rattle.std.specs.List.{AllZip, Contains, flat_map, range_with_len}
 use Rattle.std.proofs.lemmas.Cmp.{nat_eq_equiv}
