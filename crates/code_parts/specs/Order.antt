@@ -6,7 +6,7 @@ use Rattle.code_parts.specs.declared.part.Part.TheVariants.{Loop, Rest}
 use Rattle.code_parts.specs.Bodies.{Flow, own}
 use Rattle.code_parts.specs.Graph.{IsPart}
 
--- twice the number with which a search in depth left the part's first node, and one more for a rest
+-- twice the post-order number of the part's first node, and one more for a rest
 abbrev pub weight : Flow → (ℕ → ℕ) → Part → ℕ
 weight f left (Loop l) = 2 * left (f.head l)
 weight f left (Rest r n) = 2 * left n + 1
@@ -15,7 +15,7 @@ weight f left (Rest r n) = 2 * left n + 1
 abbrev pub StandsBefore : Flow → (ℕ → ℕ) → (Option ℕ → ℕ) → Part → Part → Type 0
 StandsBefore f left depth p q = (depth (own q) < depth (own p)) ⊎ ((depth (own p) ≡ depth (own q)) × (weight f left p < weight f left q))
 
--- The parts of a graph in their order, where a search left its nodes with these numbers. The depth of a region is the number of loops
+-- The parts of a graph in their order, where its nodes have these post-order numbers. The depth of a region is the number of loops
 -- around what is in it, its own included.
 pub record AreParts (f : Flow) (left : ℕ → ℕ) (parts : List Part) : Type 0 where
   pub depth : Option ℕ → ℕ

@@ -1,10 +1,14 @@
 -- How many different things of a list there are at most.
-use Rattle.std.proofs.Common.{◌≡◌, ℕ, zero, suc, ◌*◌, ◌≤◌, List, [], ◌∷◌, ◌++◌, Some, length, map, take, refl, ap, subst, inl, inr, arith, length-append}
 use Rattle.std.specs.Prelude.{slice_get}
 use Rattle.std.specs.List.{Contains}
+use Rattle.std.specs.List.Sorted.{IsStrictlySortedBy}
+use Rattle.std.specs.Ordering.{nat_cmp}
+use Rattle.std.proofs.Common.{◌≡◌, ℕ, zero, suc, ◌*◌, ◌≤◌, List, [], ◌∷◌, ◌++◌, Some, length, map, take, refl, ap, subst, inl, inr, arith, length-append, ◌<◌, get_or}
 use Rattle.std.proofs.Math.Nat.{suc-mul}
 use Rattle.std.proofs.lemmas.List.{length_push, length-map}
 use Rattle.std.proofs.lemmas.List.Elements.{Contains-push_cases, Contains-append_left, Contains-append_right, Contains-append_cases}
+use Rattle.std.proofs.lemmas.Bool.{cases_order}
+use Rattle.std.proofs.lemmas.Map.Keys.{below_from_sorted}
 use Rattle.term_arena.proofs.Places.{split_at, contains_at, at_contains, map-at}
 
 -- no more than a list has, where all images are in it, and no two the same
@@ -51,3 +55,30 @@ in_pairs {A} {B} (x ∷ ys) zs zero y z e c =
     let at = at_contains zs z c in
     subst (λ (v : A). Contains (map f zs ++ pairs ys zs) (v, z)) d (Contains-append_left (map f zs) (pairs ys zs) (x, z) (contains_at (map f zs) at.0 (x, z) (map-at f zs at.0 z at.1)))
 in_pairs {A} {B} (x ∷ ys) zs (suc i) y z e c = Contains-append_right (map (λ w. (x, w)) zs) (pairs ys zs) (y, z) (in_pairs ys zs i y z e c)
+
+-- ---- how many
+
+pub one-place : (ks : List ℕ) (i j k : ℕ) → IsStrictlySortedBy nat_cmp ks → slice_get ks i ≡ Some k → slice_get ks j ≡ Some k → i ≡ j
+one-place ks i j k o hi hj = elim (cases_order i j) [
+  | inl same ↦ same
+  | inr other ↦ elim other [ inl lt ↦ absurd (apart i j lt hi hj) | inr gt ↦ absurd (apart j i gt hj hi) ]
+]
+  where
+    apart : (a b : ℕ) → a < b → slice_get ks a ≡ Some k → slice_get ks b ≡ Some k → ⊥
+    apart a b lt ha hb =
+        let rises = below_from_sorted ks a b 0 o lt (within ks b k hb) in
+        let ka = read-at ks a k 0 ha in
+        let kb = read-at ks b k 0 hb in
+        omega (arith, rises, ka, kb)
+
+-- ---- different variables
+
+pub within : {A : Type 0} (xs : List A) (k : ℕ) (x : A) → slice_get xs k ≡ Some x → k < length xs
+within [] k x e = absurd (cc)
+within (y ∷ ys) zero x e = omega arith
+within (y ∷ ys) (suc k) x e = let rest = within ys k x e in omega (arith, rest)
+
+pub read-at : {A : Type 0} (xs : List A) (k : ℕ) (x d : A) → slice_get xs k ≡ Some x → get_or xs k d ≡ x
+read-at [] k x d e = absurd (cc)
+read-at (y ∷ ys) zero x d e = cc
+read-at (y ∷ ys) (suc k) x d e = read-at ys k x d e

@@ -11,7 +11,7 @@ use Rattle.term_arena.specs.Arena.{as_cond, cond_of, tree_of, tree_over, trees_o
 use Rattle.term_arena.proofs.TreeLemmas.{cond_there}
 use Rattle.held_terms.specs.declared.held.HeldFact.{HeldFact}
 use Rattle.held_terms.specs.Held.{fact_of, AreFactsAt}
-use Rattle.held_terms.proofs.InstanceLemmas.{same_fact, same_map}
+use Rattle.held_terms.proofs.GrowthLemmas.{same_fact, same_map}
 
 -- the number of an equation stands for it
 pub equation_there : (ns ms : List Node) (k a b : ℕ) → tree_of ms k ≡ Some (tree_over (trees_of ns) (node.Compare Eq a b)) → IsCondAt ms k

@@ -1,5 +1,4 @@
 pub mod Held
 pub mod Subterms
-pub mod Looks
-pub mod Image
+pub mod Terms
 pub mod inner

@@ -1,5 +1,5 @@
 -- Lists that have each subterm of terms: by their length the steps of a rule are bounded.
-use Rattle.std.specs.Prelude.{ℕ, All, List, Option, Some, None}
+use Rattle.std.specs.Prelude.{ℕ, All, List, Option, Some, None, ◌≡◌}
 use Rattle.std.specs.List.{Contains}
 use Rattle.word_terms.specs.Tree.{WordTree, MemTree, CondTree, Const, Var, Bin, Extend, Load, MemVar, Store, Compare, Neg, Inside}
 use Rattle.term_arena.specs.declared.node.Node.{Node}
@@ -75,3 +75,15 @@ pub record HasHeld (ns : List Node) (h : Held) (ts : List Tree) : Type 0 where
   pub facts : HasFacts ns h.facts ts
   pub pre : HasSide ns h.pre ts
   pub post : HasSide ns h.post ts
+
+-- ---- of a number
+
+-- the number's tree is in the list
+pub record IsIn (ns : List Node) (ts : List Tree) (k : ℕ) : Type 0 where
+  pub tree : Tree
+  pub at : tree_of ns k ≡ Some tree
+  pub here : Contains ts tree
+
+-- the list has each subterm of the number's term
+abbrev pub HasTerm : List Node → ℕ → List Tree → Type 0
+HasTerm ns x ts = HasTree ts (tree_of ns x)

@@ -1,15 +1,3 @@
-pub mod Table
-pub mod Places
 pub mod Numbers
 pub mod Ways
-pub mod Pairs
-pub mod SideTables
-pub mod ImageNode
-pub mod Imaging
-pub mod Slots
-pub mod Listings
-pub mod Instances
-pub mod Alone
-pub mod Following
-pub mod Leaves
-pub mod Classes
+pub mod Put

@@ -18,7 +18,7 @@ pub loop_is_met : {E : ℕ → ℕ → Type 0} (e h x : ℕ) → InLoop E e h x 
 loop_is_met e h _ AtHead = record { met = λ w. refl }
 loop_is_met e h x (Inside b r) = record { met = λ w. absurd (r.last (b.met.met (way-join w r.way))) }
 
--- of two different nodes that are reached not each is met before the other
+-- of two different nodes that are reached not each dominates the other
 pub met_before_differ : {E : ℕ → ℕ → Type 0} (e a b : ℕ) → Reaches E e a → Dominates E e a b → Dominates E e b a → a ≡ b
 met_before_differ e a b r ab ba =
     elim (first_or_none b (to_first e a r)) [

@@ -1,4 +1,4 @@
--- Where each edge goes down in an order or to a node that is met before, no cycle has two entries.
+-- Where each edge goes down in an order or to a node that dominates, no cycle has two entries.
 use Rattle.std.proofs.Common.{◌≡◌, ℕ, zero, suc, ◌+◌, ◌-◌, ◌<◌, ◌≤◌, ◌≢◌, List, length, get_or, take, drop, inl, inr, refl, sym, ◌∙◌, arith, subst, ap, length-drop, length-take}
 use Rattle.std.proofs.lemmas.List.{get_or-drop, get_or-take}
 use Rattle.std.proofs.lemmas.Bool.{cases_eq}
@@ -43,7 +43,7 @@ largest_node left c some =
       λ n cn. let a = place_of c n cn in subst (λ (m : ℕ). left m ≤ left (get_or c r.0 0)) a.2 (r.2 a.0 (omega arith)),
     )
 
--- the edge of a cycle that leads to the node that was left last leads to a node that is met before
+-- the edge of a cycle that leads to the node that was left last leads to a node that dominates it
 pub back_edge : {E : ℕ → ℕ → Type 0} (e : ℕ) (left : ℕ → ℕ) → IsPostOrder E e left → (c : List ℕ) → (h : ℕ) → Contains c h → ((n : ℕ) → Contains c n → left n ≤ left h)
     → (u : ℕ) → Contains c u → Reaches E e u → E u h → Dominates E e h u
 back_edge e left in_post_order c h ch most u cu r d = elim (in_post_order.edge u h r d) [ inl l ↦ absurd (omega (arith, most u cu)) | inr m ↦ m ]

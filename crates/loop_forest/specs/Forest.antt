@@ -12,8 +12,8 @@ use Rattle.loop_forest.specs.Regions.{IsAround, HasManyExits, loop_exit_limit}
 use Rattle.loop_forest.specs.Cuts.{StepsSinceCut, IsBase}
 use Rattle.loop_forest.specs.Addresses.{GoesTo, entry_at}
 
--- For each loop its head, the nodes in it, and its exits. For each node the loop that is its region, the number with which the search
--- left it, and its place after the last cut: how many instructions there are from that cut to it.
+-- For each loop its head, the nodes in it, and its exits. For each node the loop that is its region, its post-order number, and its place
+-- after the last cut: how many instructions there are from that cut to it.
 pub record ForestOf : Type 0 where
   pub heads : List ℕ
   pub insides : List (List ℕ)

@@ -32,6 +32,6 @@ pub record IsExit (E : ℕ → ℕ → Type 0) (e h v : ℕ) : Type 0 where
   pub edge : E from v
   pub outside : InLoop E e h v → ⊥
 
--- each edge out of a reached node goes down, or to a node that is met before
+-- the numbers are those of a post-order: each edge out of a reached node goes down, or to a node that dominates
 pub record IsPostOrder (E : ℕ → ℕ → Type 0) (e : ℕ) (left : ℕ → ℕ) : Type 0 where
   pub edge : (u v : ℕ) → Reaches E e u → E u v → (left v < left u) ⊎ Dominates E e v u

@@ -119,7 +119,7 @@ impl Forest {
         }
     }
 
-    /// The number with which the search left a node. It falls along each edge that is no back edge.
+    /// The post-order number of a node. It falls along each edge that is no back edge.
     pub fn number(&self, n: u32) -> usize
         requires { n < length self.now.places }
         ensures { result ≡ number_of self.now n }

@@ -14,7 +14,7 @@ use flow_graph::Graph;
 use rv_words::{List, NoMemory};
 use std::alloc::Global;
 
-/// The number with which the search left a node.
+/// The post-order number of a node.
 pub fn number_at(marks: &[Mark], u: u32) -> usize
     ensures { result ≡ number_of (mark_of marks.now u) }
 {

@@ -9,10 +9,10 @@ use Rattle.frame_compose.specs.Rules.{further, is_listed, rest_after}
 use Rattle.term_arena.specs.declared.node.Node.{Node}
 use Rattle.term_arena.specs.Arena.{Extends, IsWordAt, OfWord, Tree}
 use Rattle.held_terms.specs.Held.{register_of}
-use Rattle.term_bench.specs.Terms.{AreTermsPutIn}
-use Rattle.term_bench.specs.inner.Put.{AreRegistersPut, IsWordPut}
-use Rattle.term_bench.proofs.PutLemmas.{registers_stay}
-use Rattle.term_bench.proofs.PutOrder.{terms-then}
+use Rattle.held_terms.specs.Terms.{AreTermsPutIn}
+use Rattle.held_terms.specs.inner.Put.{AreRegistersPut, IsWordPut}
+use Rattle.held_terms.proofs.PutLemmas.{registers_stay}
+use Rattle.held_terms.proofs.PutOrder.{terms-then}
 
 -- what stands in registers
 abbrev pub held_words : List (ℕ × WordTree) → List Tree

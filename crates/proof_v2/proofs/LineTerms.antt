@@ -14,7 +14,7 @@ use Rattle.term_arena.specs.Arena.{Tree, OfWord, OfMem, OfCond}
 use Rattle.proof_text.specs.Line.{RuleTree, Axiom, Inst, Frame, Compose, ExtendCode, Strengthen, Weaken, Discharge, UseExit, LineTree, States, Loop, Forget, Further}
 use Rattle.proof_text.specs.LineLimits.{AreRisingFrom, IsAssertion, IsFact, IsLine, IsRule, IsTriple}
 use Rattle.checker.specs.Instance.{History, after_line}
-use Rattle.term_bench.specs.Terms.{assertion_terms, fact_terms, values_terms}
+use Rattle.held_terms.specs.Terms.{assertion_terms, fact_terms, values_terms}
 use Rattle.proof_v2.specs.ShortTerms.{IsTerm, further_terms, line_terms, lines_terms, stated_terms}
 use Rattle.proof_v2.proofs.ShortOf.{rest-fits, some-fit}
 

@@ -12,9 +12,9 @@ use Rattle.short_text.specs.ShortLimits.{IsShort}
 use Rattle.short_text.specs.Table.{IsTable}
 use Rattle.checker.specs.Instance.{History, after_line, after_lines, no_lines}
 use Rattle.term_bench.specs.Short.{IsFineShort, IsRightFor}
-use Rattle.term_bench.specs.Terms.{AreTermsPutIn}
+use Rattle.held_terms.specs.Terms.{AreTermsPutIn}
 use Rattle.term_bench.proofs.LargerTables.{fine_grows, right_grows}
-use Rattle.term_bench.proofs.PutOrder.{terms-then}
+use Rattle.held_terms.proofs.PutOrder.{terms-then}
 use Rattle.proof_v2.specs.Migration.{AreRightFor, IsMigrated}
 use Rattle.proof_v2.specs.ShortTerms.{line_terms, lines_terms}
 use Rattle.proof_v2.specs.inner.Migrating.{AreMigrated}

@@ -10,7 +10,7 @@ use Rattle.term_arena.specs.declared.node.Node.TheVariants as node
 use Rattle.term_arena.specs.Arena.{Tree, OfWord, OfMem, OfCond, AreBelow, AreChildren, ArePutIn, IsArena, cond_subterms, mem_subterms, tree_of, tree_over, trees_of, word_subterms}
 use Rattle.term_arena.proofs.Places.{at-append, at-before, at-push, at-push_cases, at_contains}
 use Rattle.term_arena.proofs.TreeLemmas.{below_node, length-trees, same_tree_over, tree_of-node, trees-push}
-use Rattle.term_bench.specs.Terms.{AreTermsPutIn, subterms}
+use Rattle.held_terms.specs.Terms.{AreTermsPutIn, subterms}
 use Rattle.short_text.specs.Table.{AreNextTerms, HasNumbers, IsTable, depth_in, depth_over, depths_of, with_depth}
 use Rattle.short_text.proofs.TableLaws.{depths-more}
 use Rattle.proof_v2.specs.ShortTerms.{FitsTerm, IsTerm}

@@ -24,7 +24,7 @@ use Rattle.checker.specs.Bench.{Kept, group_of, history_of}
 use Rattle.checker.specs.Instance.{History, Instance, after_line, after_lines, no_lines}
 use Rattle.short_text.specs.declared.short.Short.{Short}
 use Rattle.term_bench.specs.Short.{IsFineShort, IsRightFor}
-use Rattle.term_bench.specs.Terms.{AreTermsPutIn}
+use Rattle.held_terms.specs.Terms.{AreTermsPutIn}
 use Rattle.proof_v2.specs.ShortTerms.{line_terms}
 use Rattle.proof_v2.specs.inner.Migrating.{AreMigrated}
 use Rattle.proof_v2.specs.inner.Rewriting.{GoesOn, GroupIsNext, HasOpened, HasPassed, IsRightText, LineIsNext, LinesAreShort, LinesSoFar, with_lines}

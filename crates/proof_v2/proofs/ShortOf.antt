@@ -21,9 +21,9 @@ use Rattle.short_text.specs.declared.short.Short.{Short}
 use Rattle.short_text.specs.declared.short.Short.TheVariants as short
 use Rattle.short_text.specs.FullLine.{HasFurther}
 use Rattle.checker.specs.Instance.{History, Instance}
-use Rattle.term_bench.specs.Fine.{AreFineFacts, AreFineMems, AreFineRegisters, IsFineSide}
+use Rattle.derived_triples.specs.Fine.{AreFineFacts, AreFineMems, AreFineRegisters, IsFineSide}
 use Rattle.term_bench.specs.Short.{IsRightFor}
-use Rattle.term_bench.specs.inner.Put.{AreFactsPut, AreMemTermsPut, AreMemsPut, AreRegistersPut, IsSidePut}
+use Rattle.held_terms.specs.inner.Put.{AreFactsPut, AreMemTermsPut, AreMemsPut, AreRegistersPut, IsSidePut}
 use Rattle.proof_v2.specs.inner.Shortening.{IsShortOf}
 use Rattle.proof_v2.proofs.Fits.{numbers_same, rises-some}
 

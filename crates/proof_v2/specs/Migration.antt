@@ -6,7 +6,7 @@ use Rattle.proof_text.specs.Line.{LineTree, ProofTree}
 use Rattle.checker.specs.Instance.{History, after_line, no_lines}
 use Rattle.short_text.specs.declared.short.Short.{Short}
 use Rattle.term_bench.specs.Short.{IsRightFor}
-use Rattle.term_bench.specs.Terms.{AreTermsPutIn}
+use Rattle.held_terms.specs.Terms.{AreTermsPutIn}
 use Rattle.proof_v2.specs.ShortTerms.{lines_terms}
 
 -- each short line stands for the line in its place, which is right after those before it

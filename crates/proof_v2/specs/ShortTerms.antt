@@ -7,7 +7,7 @@ use Rattle.triple_kernel.specs.Tree.{TripleTree}
 use Rattle.frame_compose.specs.Rules.{further, rest_after}
 use Rattle.proof_text.specs.Line.{RuleTree, Axiom, Inst, Frame, Compose, ExtendCode, Strengthen, Weaken, Discharge, UseExit, LineTree, States, Loop, Forget, Further}
 use Rattle.checker.specs.Instance.{History, after_line}
-use Rattle.term_bench.specs.Terms.{assertion_terms, fact_terms}
+use Rattle.held_terms.specs.Terms.{assertion_terms, fact_terms}
 
 -- of a triple t by the rule `frame`: what its precondition has besides that of the theorem p
 abbrev pub further_terms : TripleTree → TripleTree → List Tree

@@ -1,20 +1,20 @@
 //! What a frame has besides its theorem.
-#![tactic(auto, using(held_terms::proofs::InstanceLemmas::extends_next, term_bench::proofs::BenchLemmas::extends_none))]
+#![tactic(auto, using(held_terms::proofs::GrowthLemmas::extends_next, held_terms::proofs::GrowthLemmas::extends_none))]
 
 ghost use Rattle.std.specs.Prelude.{IfOk, map};
 ghost use Rattle.word_terms.specs.Tree.{mem_tree};
 ghost use Rattle.sep_assert.specs.Tree.{register_tree};
 ghost use Rattle.term_arena.specs.Arena.{Extends, OfMem, OfWord};
 ghost use Rattle.frame_compose.specs.Rules.{further, rest_after};
-ghost use Rattle.term_bench.specs.Terms.{AreTermsPutIn};
-ghost use Rattle.term_bench.specs.inner.Put.{AreMemsPut, AreRegistersPut};
+ghost use Rattle.held_terms.specs.Terms.{AreTermsPutIn};
+ghost use Rattle.held_terms.specs.inner.Put.{AreMemsPut, AreRegistersPut};
 
 use frame_compose::{is_listed, rest_after};
+use held_terms::{put_mems, put_word};
 use rv_words::{List, NoMemory};
 use std::alloc::Global;
 use std::sync::ledger::Ledger;
 use term_arena::{Arena, Steps};
-use term_bench::{put_mems, put_word};
 use word_terms::{Mem, Word};
 
 /// The registers that aren't among a theorem's own, with the numbers of what they hold.

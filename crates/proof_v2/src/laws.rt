@@ -12,7 +12,7 @@ ghost use Rattle.term_arena.specs.declared.node.Node.{Node};
 ghost use Rattle.term_arena.specs.Arena.{IsArena, Tree};
 ghost use Rattle.term_bench.specs.Short.{IsFineShort};
 ghost use Rattle.term_bench.specs.ShortRules.{short_rules};
-ghost use Rattle.term_bench.specs.Terms.{AreTermsPutIn};
+ghost use Rattle.held_terms.specs.Terms.{AreTermsPutIn};
 ghost use Rattle.proof_v2.specs.MigratedText.{IsMigratedProof};
 ghost use Rattle.proof_v2.specs.Migration.{IsMigrated};
 ghost use Rattle.proof_v2.specs.ShortTerms.{IsTerm};

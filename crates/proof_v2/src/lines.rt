@@ -1,5 +1,5 @@
 //! The short line for a line of version 1.
-#![tactic(auto, using(held_terms::proofs::InstanceLemmas::extends_next, term_bench::proofs::BenchLemmas::extends_none))]
+#![tactic(auto, using(held_terms::proofs::GrowthLemmas::extends_next, held_terms::proofs::GrowthLemmas::extends_none))]
 
 ghost use Rattle.std.specs.Prelude.{◌≡◌, ◌++◌, IfOk, List as Items, Some as Just, flat_map, map};
 ghost use Rattle.term_arena.specs.declared.node.Node.{Node};
@@ -10,19 +10,20 @@ ghost use Rattle.checker.specs.Bench.{group_of, history_of};
 ghost use Rattle.checker.specs.Instance.{History, Instance, Meets};
 ghost use Rattle.term_arena.specs.Arena.{Extends, OfMem, OfWord};
 ghost use Rattle.term_bench.specs.Short.{IsFineShort, IsRightFor};
-ghost use Rattle.term_bench.specs.Terms.{AreTermsPutIn, assertion_terms, fact_terms};
+ghost use Rattle.held_terms.specs.Terms.{AreTermsPutIn, assertion_terms, fact_terms};
 ghost use Rattle.proof_v2.specs.ShortTerms.{further_terms, line_terms};
 ghost use Rattle.proof_v2.specs.inner.Shortening.{IsShortOf};
 
 use crate::further::{put_further_mems, put_further_registers};
 use checker::Bench;
+use derived_triples::{put_mem_terms, put_word_terms};
+use held_terms::{put_facts, put_side};
 use proof_text::{Line, Rule};
 use rv_words::{List, NoMemory};
 use short_text::Short;
 use std::alloc::Global;
 use std::sync::ledger::Ledger;
 use term_arena::{Arena, Steps};
-use term_bench::{put_facts, put_mem_terms, put_side, put_word_terms};
 use triple_kernel::Triple;
 use word_terms::{Sub, copy_code};
 

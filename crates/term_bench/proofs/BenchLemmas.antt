@@ -1,7 +1,7 @@
 -- What a bench holds: in a larger arena, with a theorem more or less, and with one more definition that is closed.
 use Rattle.std.proofs.Common.{◌≡◌, ℕ, zero, suc, ◌+◌, ◌<◌, Bool, true, false, cond, Option, Some, None, List, [], ◌∷◌, ◌++◌, length, map, refl, sym, ap, ◌∙◌, subst, arith}
 use Rattle.std.specs.Prelude.{◌==◌, ◌↔◌, IfSome, IsSomeAnd, Contains, is_some, option_map, replicate, slice_get, slice_set, unwrap_or}
-use Rattle.std.proofs.lemmas.List.{append-nil, length-map}
+use Rattle.std.proofs.lemmas.List.{length-map}
 use Rattle.std.proofs.lemmas.Option.{slice_get_within}
 use Rattle.std.proofs.lemmas.Map.Lookups.{exact_unsigned}
 use Rattle.std.proofs.lemmas.Map.Views.{btree_map_contains_key_iff}
@@ -17,17 +17,18 @@ use Rattle.triple_kernel.specs.Tree.{TripleTree}
 use Rattle.term_arena.specs.declared.node.Node.{Node}
 use Rattle.term_arena.specs.Arena.{Extends, IsAdded, Was_there, Is_next}
 use Rattle.term_arena.proofs.Places.{contains_at}
-use Rattle.held_terms.specs.declared.held.Held.{Held}
-use Rattle.held_terms.specs.Held.{IsHeldAt, triple_of}
-use Rattle.held_terms.proofs.InstanceLemmas.{held_still, same_triple}
 use Rattle.loop_rule.specs.Rule.{IsClosedBy}
 use Rattle.proof_text.specs.Line.{RuleTree}
 use Rattle.checker.specs.Instance.{FurtherRule, History, Meets, no_lines, with_closed, with_theorem, without}
 use Rattle.checker.specs.Sound.{Sound}
 use Rattle.checker.proofs.SoundLemmas.{no_lines-sound}
-use Rattle.term_bench.specs.Bench.{AreHeldAt, BenchState, CanCite, Theorems, held_by_number, is_closed_in, state_group, state_history, theorem_at}
+use Rattle.held_terms.specs.declared.held.Held.{Held}
+use Rattle.held_terms.specs.Held.{IsHeldAt, triple_of}
+use Rattle.held_definitions.specs.Theorems.{AreHeldAt, Theorems, held_by_number, theorem_at}
+use Rattle.held_definitions.specs.inner.Marks.{Changes}
+use Rattle.held_definitions.proofs.TheoremLemmas.{held_stay, theorems_stay}
+use Rattle.term_bench.specs.Bench.{BenchState, CanCite, is_closed_in, state_group, state_history}
 use Rattle.term_bench.specs.inner.Bench.{IsSoundState}
-use Rattle.term_bench.specs.inner.Marks.{Changes}
 
 -- ---- a look-up after a change at one number
 
@@ -81,26 +82,12 @@ sound_first g ns held closed n w h e c = record {
 -- ---- in a larger arena
 
 module _ (ns ms : List Node) (e : Extends ns ms) where
-  still : (o : Option Held) → IfSome o (λ h. IsHeldAt ns h) → IfSome o (λ h. IsHeldAt ms h)
-  still None h = tt
-  still (Some p) h = held_still ns ms e p h
-
-  same : (o : Option Held) → IfSome o (λ h. IsHeldAt ns h) → option_map (triple_of ms) o ≡ option_map (triple_of ns) o
-  same None h = refl
-  same (Some p) h = ap Some (same_triple ns ms e p h)
-
-  pub held_stay : (held : Theorems) → AreHeldAt ns held → AreHeldAt ms held
-  held_stay held h = λ k. still (held_by_number held k) (h k)
-
-  pub theorems_stay : (held : Theorems) → AreHeldAt ns held → theorem_at ms held ≡ theorem_at ns held
-  theorems_stay held h = λ i. λ k. same (held_by_number held k) (h k) i
-
   pub history_stays : (g : Group) (held : Theorems) (next : ℕ) (closed : List Bool) → AreHeldAt ns held → state_history (g, ms, held, next, closed) ≡ state_history (g, ns, held, next, closed)
-  history_stays g held next closed h = λ i. record { next = next; theorem = theorems_stay held h i; closed = is_closed_in closed }
+  history_stays g held next closed h = λ i. record { next = next; theorem = theorems_stay ns ms e held h i; closed = is_closed_in closed }
 
   pub sound_grown : (g : Group) (held : Theorems) (next : ℕ) (closed : List Bool) → IsSoundState (g, ns, held, next, closed) → IsSoundState (g, ms, held, next, closed)
   sound_grown g held next closed k = record {
-    there = held_stay held k.there;
+    there = held_stay ns ms e held k.there;
     count = k.count;
     well_formed = k.well_formed;
     sound = subst (Sound (group_tree g)) (sym (history_stays g held next closed k.there)) k.sound;
@@ -193,16 +180,10 @@ same_closed g k h j d s eg eh = subst (λ (x : GroupTree). Sound x (with_closed 
 
 -- ---- arenas
 
-pub extends_none : (ns : List Node) → Extends ns ns
-extends_none ns = record { more = []; is = sym (append-nil ns) }
-
 -- a node that isn't there gets the next number
 pub added_new : (ns ms : List Node) (n : Node) (k : ℕ) → IsAdded ns n k ms → (Contains ns n → ⊥) → (k ≡ length ns) × (ms ≡ ns ++ n ∷ [])
 added_new ns ms n k (Was_there at same) none = absurd (none (contains_at ns k n at))
 added_new ns ms n k (Is_next e f) none = (e, f)
-
-pub extends_same : (ns ms : List Node) → ms ≡ ns → Extends ns ms
-extends_same ns ms e = record { more = []; is = e ∙ sym (append-nil ns) }
 
 -- ---- the row of a rule after the same history
 

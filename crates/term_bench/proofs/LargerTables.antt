@@ -13,14 +13,14 @@ use Rattle.term_arena.specs.Arena.{Extends, mem_of}
 use Rattle.held_terms.specs.declared.held.HeldFact.{HeldFact}
 use Rattle.held_terms.specs.declared.held.HeldSide.{HeldSide}
 use Rattle.held_terms.specs.Held.{AreFactsAt, AreMemsAt, AreRegistersAt, fact_of, register_of}
-use Rattle.held_terms.specs.Image.{IsSubAt}
-use Rattle.held_terms.proofs.ImageLemmas.{mem_still, still_there, word_still}
-use Rattle.held_terms.proofs.InstanceLemmas.{facts_still, same_fact, same_map, same_mem, same_side, same_word, side_still}
+use Rattle.held_instances.specs.Image.{IsSubAt}
+use Rattle.held_terms.proofs.GrowthLemmas.{mem_still, word_still, facts_still, same_fact, same_map, same_mem, same_side, same_word, side_still}
+use Rattle.held_instances.proofs.ImageLemmas.{still_there}
 use Rattle.short_text.specs.declared.short.Short.{Short}
 use Rattle.short_text.specs.declared.short.Short.TheVariants as short
 use Rattle.short_text.specs.FullLine.{HasStated, IsFullLine, mems_for, rule_over, words_for}
 use Rattle.checker.specs.Instance.{History}
-use Rattle.term_bench.specs.Fine.{AreFineFacts, AreFineMems, AreFineRegisters, IsFineSide}
+use Rattle.derived_triples.specs.Fine.{AreFineFacts, AreFineMems, AreFineRegisters, IsFineSide}
 use Rattle.term_bench.specs.Short.{HasFurtherAfter, IsFineShort, IsRightFor, IsShortInstance, LeavesBehind}
 
 some-as : {A : Type 0} (o : Option A) (P R : A → Type 0) → ((x : A) → P x → R x) → IsSomeAnd o P → IsSomeAnd o R

@@ -13,7 +13,7 @@ use Rattle.short_text.specs.declared.short.Short.TheVariants as short
 use Rattle.short_text.specs.FullLine.{mems_for, rule_over, words_for}
 use Rattle.checker.specs.Instance.{History, put_for}
 use Rattle.term_bench.specs.Short.{IsRightFor, IsStatedBy}
-use Rattle.term_bench.proofs.ShortLemmas.{of_both, one_composed, one_discharged, one_exit, one_extended, one_framed, one_inst, one_strengthened, one_weakened}
+use Rattle.derived_triples.proofs.ShortLemmas.{of_both, one_composed, one_discharged, one_exit, one_extended, one_framed, one_inst, one_strengthened, one_weakened}
 use Rattle.term_bench.proofs.StatingLemmas.{axiom_from, compose_from, discharge_from, extend_from, frame_from, rule_of, strengthen_from, use_from, weaken_from}
 
 module _ (g : GroupTree) (h : History) (ns : List Node) where

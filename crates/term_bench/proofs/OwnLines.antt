@@ -18,9 +18,9 @@ use Rattle.short_text.specs.declared.short.Short.TheVariants as short
 use Rattle.short_text.specs.FullLine.{mems_for, words_for}
 use Rattle.short_text.specs.SpelledShort.{short_or_own}
 use Rattle.checker.specs.Instance.{History}
-use Rattle.term_bench.specs.Bench.{Theorems, held_by_number, theorem_at}
+use Rattle.held_definitions.specs.Theorems.{Theorems, held_by_number, theorem_at}
 use Rattle.term_bench.specs.inner.Sharing.{IsOwnStated, states_own}
-use Rattle.term_bench.proofs.MarkLemmas.{over_same}
+use Rattle.held_definitions.proofs.MarkLemmas.{over_same}
 use Rattle.term_bench.proofs.StatingLemmas.{rule_of}
 
 and-both : (a b : Bool) → a && b ≡ true → (a ≡ true) × (b ≡ true)

@@ -9,13 +9,14 @@ use Rattle.term_arena.specs.declared.node.Node.{Node}
 use Rattle.term_arena.specs.Arena.{Extends, word_of, mem_of}
 use Rattle.held_terms.specs.declared.held.Held.{Held}
 use Rattle.held_terms.specs.Held.{IsHeldAt, triple_of}
-use Rattle.held_terms.specs.Image.{IsSubAt, put_for_numbers}
-use Rattle.held_terms.proofs.InstanceLemmas.{same_triple}
+use Rattle.held_instances.specs.Image.{IsSubAt, put_for_numbers}
+use Rattle.held_terms.proofs.GrowthLemmas.{same_triple}
 use Rattle.tailrec_lang.specs.Tree.{GroupTree}
 use Rattle.proof_text.specs.Line.{RuleTree, Axiom, Inst, Frame, Compose, ExtendCode, Strengthen, Weaken, Discharge, UseExit}
 use Rattle.checker.specs.Instance.{History, Meets, put_for}
-use Rattle.term_bench.specs.Bench.{Theorems, history_from, is_closed_in, theorem_at}
-use Rattle.term_bench.specs.inner.Put.{AreRegistersPut, AreMemTermsPut}
+use Rattle.held_definitions.specs.Theorems.{Theorems, theorem_at}
+use Rattle.term_bench.specs.Bench.{history_from, is_closed_in}
+use Rattle.held_terms.specs.inner.Put.{AreRegistersPut, AreMemTermsPut}
 
 -- ---- terms that are put in for variables
 

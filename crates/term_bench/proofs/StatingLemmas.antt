@@ -25,16 +25,17 @@ use Rattle.held_terms.specs.declared.held.Held.{Held}
 use Rattle.held_terms.specs.declared.held.HeldFact.{HeldFact}
 use Rattle.held_terms.specs.declared.held.HeldSide.{HeldSide}
 use Rattle.held_terms.specs.Held.{IsHeldAt, fact_of, register_of, side_of, triple_of}
-use Rattle.held_terms.specs.Image.{IsSubAt, put_for_numbers}
+use Rattle.held_instances.specs.Image.{IsSubAt, put_for_numbers}
 use Rattle.short_text.specs.declared.short.Short.{Short}
 use Rattle.short_text.specs.declared.short.Short.TheVariants as short
 use Rattle.short_text.specs.FullLine.{mems_for, rule_over, words_for}
 use Rattle.checker.specs.Instance.{AreInstances, History, Meets, after_line, no_lines, put_for, with_closed, with_theorem, without}
-use Rattle.term_bench.specs.Bench.{AreHeldAt, Theorems, held_by_number, state_history}
-use Rattle.term_bench.specs.Fine.{IsFineHeld}
+use Rattle.held_definitions.specs.Theorems.{AreHeldAt, Theorems, held_by_number}
+use Rattle.term_bench.specs.Bench.{state_history}
+use Rattle.derived_triples.specs.Fine.{IsFineHeld}
 use Rattle.term_bench.specs.Short.{AreFineAt, AreFullLines, AreWithin, HasFurtherAfter, IsFineShort, IsNeverStated, IsShortInstance, IsStatedBy, LeaveAfter, LeavesBehind}
-use Rattle.term_bench.specs.inner.Making.{MadeIf}
-use Rattle.term_bench.proofs.ComputedLemmas.{made_as}
+use Rattle.derived_triples.specs.inner.Making.{MadeIf}
+use Rattle.derived_triples.proofs.ComputedLemmas.{made_as}
 use Rattle.term_bench.proofs.RuleLemmas.{meets_next, same_put}
 
 -- ---- of what an option holds

@@ -25,11 +25,11 @@ use Rattle.short_text.specs.declared.short.Short.{Short}
 use Rattle.short_text.specs.declared.short.Short.TheVariants as short
 use Rattle.short_text.specs.ShortLimits.{AreHeldRegisters, AreHeldValues, IsHeldFact, IsHeldSide, IsMemNumber, IsShort, IsWordNumber}
 use Rattle.short_text.specs.Table.{AreNextTerms, HasNumbers, IsNextTerm, IsTable, depth_in, depth_over, depths_of, with_depth}
-use Rattle.term_bench.specs.Fine.{AreFineFacts, AreFineMems, AreFineRegisters, IsFineSide}
+use Rattle.derived_triples.specs.Fine.{AreFineFacts, AreFineMems, AreFineRegisters, IsFineSide}
 use Rattle.term_bench.specs.Short.{IsFineShort}
-use Rattle.term_bench.specs.inner.Depths.{FitsTree}
-use Rattle.term_bench.proofs.DepthLemmas.{tree_fits}
-use Rattle.term_bench.proofs.LimitLemmas.{same_numbers}
+use Rattle.derived_triples.specs.inner.Depths.{FitsTree}
+use Rattle.derived_triples.proofs.DepthLemmas.{tree_fits}
+use Rattle.derived_triples.proofs.LimitLemmas.{same_numbers}
 
 -- ---- depths by a table's own reckoning
 

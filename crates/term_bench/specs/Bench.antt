@@ -1,20 +1,12 @@
 -- What a bench over numbers keeps of the lines of a group's proof, and the history that it stands for.
-use Rattle.std.specs.Prelude.{◌≡◌, ◌↔◌, ℕ, Bool, true, false, List, length, slice_get, Option, option_map, unwrap_or, is_some, IfSome, Contains}
+use Rattle.std.specs.Prelude.{◌≡◌, ◌↔◌, ℕ, Bool, true, false, List, length, slice_get, unwrap_or, is_some, Contains}
 use Rattle.std.specs.List.Sorted.{IsStrictlySortedBy}
 use Rattle.std.specs.Ordering.{nat_cmp}
-use Rattle.std.specs.BTreeMap.{is_at}
-use Rattle.std.specs.Map.{lookup}
 use Rattle.tailrec_lang.specs.declared.group.Group.{Group}
 use Rattle.tailrec_lang.specs.Tree.{GroupTree, group_tree}
-use Rattle.triple_kernel.specs.Tree.{TripleTree}
 use Rattle.term_arena.specs.declared.node.Node.{Node}
-use Rattle.held_terms.specs.declared.held.Held.{Held}
-use Rattle.held_terms.specs.Held.{triple_of, IsHeldAt}
 use Rattle.checker.specs.Instance.{History}
-
--- the theorems that can be cited, each beside its number
-abbrev pub Theorems : Type 0
-Theorems = List (ℕ × Held)
+use Rattle.held_definitions.specs.Theorems.{Theorems, theorem_at}
 
 -- the group, the terms of the arena, the theorems over their numbers, the number of the next theorem, and which definitions are
 -- closed
@@ -26,18 +18,6 @@ state_group k = group_tree k.0
 
 abbrev pub state_nodes : BenchState → List Node
 state_nodes k = k.1
-
--- the theorem of that number, if it was made and not forgotten
-abbrev pub held_by_number : Theorems → ℕ → Option Held
-held_by_number held k = lookup (is_at (nat_cmp k)) held
-
--- .. as the triple that its numbers stand for
-abbrev pub theorem_at : List Node → Theorems → ℕ → Option TripleTree
-theorem_at ns held k = option_map (triple_of ns) (held_by_number held k)
-
--- each number of the theorems is one of the arena, of the kind of its place
-abbrev pub AreHeldAt : List Node → Theorems → Type 0
-AreHeldAt ns held = (k : ℕ) → IfSome (held_by_number held k) (λ h. IsHeldAt ns h)
 
 abbrev pub is_closed_in : List Bool → ℕ → Bool
 is_closed_in closed d = unwrap_or (slice_get closed d) false

@@ -1,6 +1,5 @@
 pub mod Bench
-pub mod Terms
-pub mod inner
-pub mod Fine
+pub mod LineTerms
 pub mod Short
 pub mod ShortRules
+pub mod inner

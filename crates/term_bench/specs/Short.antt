@@ -7,7 +7,7 @@ use Rattle.triple_kernel.specs.Tree.{TripleTree}
 use Rattle.term_arena.specs.declared.node.Node.{Node}
 use Rattle.term_text.specs.Limits.{IsWord, IsMem}
 use Rattle.group_text.specs.Limits.{index_limit}
-use Rattle.held_terms.specs.Image.{IsSubAt}
+use Rattle.held_instances.specs.Image.{IsSubAt}
 use Rattle.proof_text.specs.Line.{LineTree, RuleTree, States}
 use Rattle.proof_text.specs.LineLimits.{AreRisingFrom, IsLine, IsTriple}
 use Rattle.proof_text.specs.inner.OwnCode.{IsOwnCode}
@@ -15,8 +15,8 @@ use Rattle.short_text.specs.declared.short.Short.{Short}
 use Rattle.short_text.specs.declared.short.Short.TheVariants as short
 use Rattle.short_text.specs.FullLine.{IsFullLine, HasFurther, words_for, mems_for}
 use Rattle.checker.specs.Instance.{AreInstances, History, Instance, after_line}
-use Rattle.term_bench.specs.Bench.{Theorems, held_by_number}
-use Rattle.term_bench.specs.Fine.{AreFineFacts, AreFineMems, AreFineRegisters, IsFineHeld, IsFineSide}
+use Rattle.held_definitions.specs.Theorems.{Theorems, held_by_number}
+use Rattle.derived_triples.specs.Fine.{AreFineFacts, AreFineMems, AreFineRegisters, IsFineHeld, IsFineSide}
 
 -- ---- the line for which it stands
 

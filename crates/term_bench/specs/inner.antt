@@ -1,10 +1,3 @@
-pub mod Put
 pub mod Bench
-pub mod Leaves
-pub mod Asked
-pub mod Making
-pub mod Depths
-pub mod Exits
 pub mod Standing
 pub mod Sharing
-pub mod Marks

@@ -13,26 +13,28 @@ ghost use Rattle.held_terms.specs.declared.held.Held.{Held as HeldOf};
 ghost use Rattle.held_terms.specs.Held.{IsHeldAt, triple_of};
 ghost use Rattle.checker.specs.Instance.{Instance, InstanceBy, Meets, after_line, no_lines, with_closed, with_theorem, without};
 ghost use Rattle.checker.specs.Sound.{Sound};
-ghost use Rattle.term_bench.specs.Bench.{CanCite, Theorems, state_group, state_history, state_nodes};
+ghost use Rattle.term_bench.specs.Bench.{CanCite, state_group, state_history, state_nodes};
+ghost use Rattle.held_definitions.specs.Theorems.{Theorems};
 ghost use Rattle.proof_text.specs.inner.OwnCode.{IsOwnCode};
 ghost use Rattle.short_text.specs.SpelledShort.{short_or_own};
 ghost use Rattle.short_text.specs.declared.short.Short.TheVariants as short;
 ghost use Rattle.term_bench.specs.Short.{AreWithin, IsFineShort, IsNeverStated, IsShortInstance, IsStatedBy, LeavesBehind};
-ghost use Rattle.term_bench.specs.Terms.{HasLine, HasShort, HasSubterms, closing_terms, compares_numbers, is_compared, is_copied, is_loop, loop_terms, nodes_of, pair_steps, premise_terms, put_in_terms, stated_triple_terms, triple_terms, whole_line_terms};
-ghost use Rattle.term_bench.specs.inner.Making.{MadeIf};
-ghost use Rattle.term_bench.specs.inner.Marks.{Changes, HaveCode, held_over};
-ghost use Rattle.term_bench.specs.inner.Put.{IsHeldPut};
+ghost use Rattle.term_bench.specs.LineTerms.{HasLine, HasShort, compares_numbers, is_compared, is_copied, is_loop, loop_terms, premise_terms, put_in_terms, stated_triple_terms, whole_line_terms};
+ghost use Rattle.held_terms.specs.Terms.{HasSubterms, nodes_of, pair_steps, triple_terms};
+ghost use Rattle.held_definitions.specs.ClosingTerms.{closing_terms};
+ghost use Rattle.derived_triples.specs.inner.Making.{MadeIf};
+ghost use Rattle.held_definitions.specs.inner.Marks.{Changes, HaveCode, held_over};
+ghost use Rattle.held_terms.specs.inner.Put.{IsHeldPut};
 ghost use Rattle.term_bench.specs.inner.Sharing.{IsOwnStated};
 
-use crate::closing::is_closed_by;
-use crate::copies::copy_to_share;
 use crate::held_rule::HeldRule;
 use crate::known::{is_known, states_own};
-use crate::put::put_triple;
-use crate::rules::{by_further, code_giver, is_closed, meets, theorem};
+use crate::rules::{by_further, code_giver, is_closed, meets};
 use crate::stating::stated_by;
 use checker::{NoRule, law_of_lines};
-use held_terms::{Held, ImageTable, SharedCode};
+use held_definitions::{is_closed_by, theorem};
+use held_instances::ImageTable;
+use held_terms::{Held, SharedCode, copy_to_share, put_triple};
 use proof_text::{Line, Rule};
 use rv_words::{List, NoMemory};
 use sep_assert::same_code;
@@ -80,7 +82,7 @@ impl<'g> Model for Bench<'g> {
     ghost use Rattle.tailrec_lang.specs.contracts.group.End as end;
     ghost use Rattle.term_bench.specs.Bench.{BenchState};
     ghost use Rattle.term_bench.specs.inner.Bench.{IsSoundState};
-    ghost use Rattle.term_bench.specs.inner.Marks.{IsOwnKept};
+    ghost use Rattle.held_definitions.specs.inner.Marks.{IsOwnKept};
 
     ghost Value = { BenchState };
 
@@ -383,7 +385,7 @@ impl<'g> Bench<'g> {
     }
 
     /// States a triple by a rule.
-    #[tactic(auto, using(held_terms::proofs::InstanceLemmas::extends_next))]
+    #[tactic(auto, using(held_terms::proofs::GrowthLemmas::extends_next))]
     fn state<L: Ledger>(
         &mut self,
         alloc: Global,
@@ -430,7 +432,7 @@ impl<'g> Bench<'g> {
     }
 
     /// States a triple by a further rule.
-    #[tactic(auto, using(held_terms::proofs::InstanceLemmas::extends_next))]
+    #[tactic(auto, using(held_terms::proofs::GrowthLemmas::extends_next))]
     fn state_further<R: HeldRule, L: Ledger>(
         &mut self,
         alloc: Global,

@@ -35,7 +35,7 @@ pub trait HeldRule: FurtherRule {
 }
 
 impl HeldRule for NoRule {
-    #[tactic(auto, using(crate::proofs::BenchLemmas::extends_none))]
+    #[tactic(auto, using(held_terms::proofs::GrowthLemmas::extends_none))]
     fn is_stated<L: Ledger>(
         &self,
         _alloc: Global,

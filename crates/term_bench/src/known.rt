@@ -6,14 +6,15 @@ ghost use Rattle.std.specs.BTreeSet.{contains};
 ghost use Rattle.std.specs.Ordering.{nat_cmp};
 ghost use Rattle.rv_words.specs.Bytes.{over};
 ghost use Rattle.rv_words.specs.Ranges.{range_bytes};
-ghost use Rattle.sep_assert.specs.Code.{Agree, IsWithin};
-ghost use Rattle.term_bench.specs.Bench.{held_by_number};
-ghost use Rattle.term_bench.specs.inner.Marks.{HaveCode, HaveSameCode};
+ghost use Rattle.sep_assert.specs.Code.{Agree};
+ghost use Rattle.held_definitions.specs.Theorems.{held_by_number};
+ghost use Rattle.held_definitions.specs.inner.Marks.{HaveCode, HaveSameCode};
 ghost use Rattle.term_bench.specs.inner.Sharing.{states_own};
 
+use derived_triples::has_code_within;
 use frame_compose::is_union;
 use held_terms::Held;
-use sep_assert::{code_agree, code_within, same_code};
+use sep_assert::same_code;
 use short_text::Short;
 use std::collections::{BTreeMap, BTreeSet};
 use tailrec_lang::Group;
@@ -73,27 +74,6 @@ pub(crate) fn has_code(known: bool, p: &Held, stated: &Held) -> bool
     known || same_code(p.code.as_code(), stated.code.as_code())
 }
 
-/// Whether the theorem's code lies within that of the triple, likewise.
-#[tactic(auto, using(crate::proofs::MarkLemmas::within_same))]
-pub(crate) fn has_code_within(known: bool, p: &Held, stated: &Held) -> bool
-    requires { IsTrue known → p.now.code.ranges ≡ stated.now.code.ranges }
-    ensures { IsTrue result
-        ↔ IsWithin (range_bytes p.now.code.ranges) (range_bytes stated.now.code.ranges) }
-{
-    known || code_within(p.code.as_code(), stated.code.as_code())
-}
-
-/// Whether the codes of two theorems agree. Where they are known to be the same, nothing is
-/// compared.
-#[tactic(auto, using(crate::proofs::MarkLemmas::agree_same))]
-pub(crate) fn have_agreement(known: bool, p: &Held, q: &Held) -> bool
-    requires { IsTrue known → p.now.code.ranges ≡ q.now.code.ranges }
-    ensures { IsTrue result
-        ↔ Agree (range_bytes p.now.code.ranges) (range_bytes q.now.code.ranges) }
-{
-    known || code_agree(p.code.as_code(), q.code.as_code())
-}
-
 /// Whether the codes of two theorems agree and are that of the triple together. Where the first
 /// theorem's is known to be that, it is left to see whether the other's lies within it.
 pub(crate) fn have_union(
@@ -123,17 +103,6 @@ pub(crate) fn has_own_code(g: &Group, own: bool, stated: &Held) -> bool
     ensures { IsTrue result ↔ (stated.now.code.ranges ≡ g.now.code.ranges) }
 {
     own || same_code(stated.code.as_code(), &g.code)
-}
-
-/// Whether the theorem's code lies within the group's own. Where it is known to be that, nothing is
-/// compared.
-#[tactic(auto, using(crate::proofs::MarkLemmas::within_same))]
-pub(crate) fn is_within_own(g: &Group, own: bool, p: &Held) -> bool
-    requires { IsTrue own → p.now.code.ranges ≡ g.now.code.ranges }
-    ensures { IsTrue result
-        ↔ IsWithin (range_bytes p.now.code.ranges) (range_bytes g.now.code.ranges) }
-{
-    own || code_within(p.code.as_code(), &g.code)
 }
 
 /// Whether the triple that the line states, where it is right, is known to have the group's own

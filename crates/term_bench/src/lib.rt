@@ -13,16 +13,14 @@
 //! a refusal, while the arena may have more terms. A theorem that was forgotten takes no place;
 //! `bench.kept()` is how many there are. The type keeps that each theorem is valid and each closed
 //! definition right, by the checker's law of lines, so that nothing is proved again of the rules.
-//! `put_triple` puts the terms of a triple into an arena.
 //!
 //! `bench.derive(alloc, &line, &mut steps)` does so for a short line, whose terms are numbers of
 //! the arena and which leaves out what can be computed: it is Ok exactly where some triple within
 //! the limits of texts makes the line right (`IsShortInstance`), and then holds that triple; so
-//! does `bench.derive_spelled` for one as it is spelled, where the group's own code is left out. A
-//! rule makes the triple of the theorems that the line cites (`making`), or it is computed and its
-//! depth is looked up (`computed`, `limits`). `law_of_full_lines` says that short lines stand for
-//! as many lines of version 1, each right after those before it, and `law_of_one_full_line` that a
-//! short line stands for one alone.
+//! does `bench.derive_spelled` for one as it is spelled, where the group's own code is left out.
+//! The crate `derived_triples` makes the triple. `law_of_full_lines` says that short lines stand
+//! for as many lines of version 1, each right after those before it, and `law_of_one_full_line`
+//! that a short line stands for one alone.
 //!
 //! A loop over the lines of a text of version 2 puts the terms of its table in first, by
 //! `bench.add(node, &mut steps)`: each gets its number in the table (`law_of_new_terms`). What
@@ -37,19 +35,11 @@
 //! texts of the first kind, `check_short` and `check_pulled_short` that of texts of version 2.
 #![tactic(auto)]
 
-mod asked;
 mod bench;
 mod check;
-mod closing;
-mod computed;
-mod copies;
-mod exits;
 mod held_rule;
 mod known;
 mod laws;
-mod limits;
-mod making;
-mod put;
 mod rules;
 mod short_check;
 mod short_judge;
@@ -63,7 +53,6 @@ pub use laws::{
     law_of_full_lines, law_of_larger_tables, law_of_limits, law_of_new_terms, law_of_one_full_line,
     law_of_read_lines, law_of_short_proofs,
 };
-pub use put::{put_facts, put_mem_terms, put_mems, put_side, put_triple, put_word, put_word_terms};
 pub use short_check::{check_pulled_short, check_short};
 pub use short_judge::{ByTable, OverTables};
 pub use whole_judge::OverNumbers;

@@ -1,7 +1,6 @@
 //! The rules by which a line states a triple, each with the theorems that it cites.
 
-ghost use Rattle.std.specs.Prelude.{◌≡◌, ◌↔◌, ◌+◌, ◌*◌, ◌≤◌, ◌++◌, IfOk, List as Items, length, IfSome, IsSomeAnd, IsTrue, Some as Just, map, option_map, true};
-ghost use Rattle.std.specs.Option.{option_copied};
+ghost use Rattle.std.specs.Prelude.{◌≡◌, ◌↔◌, ◌+◌, ◌*◌, ◌≤◌, ◌++◌, IfOk, List as Items, length, IfSome, IsSomeAnd, IsTrue, Some as Just, map, true};
 ghost use Rattle.tailrec_lang.specs.Tree.{group_tree};
 ghost use Rattle.triple_kernel.specs.Tree.{triple_tree};
 ghost use Rattle.triple_kernel.specs.Rules.{IsDischarged, IsInst, IsStrengthened, IsWeakened};
@@ -12,19 +11,21 @@ ghost use Rattle.proof_text.specs.Line.{mem_put_in, rule_tree, triple_or_own, wo
 ghost use Rattle.term_arena.specs.Arena.{Extends, OfMem, OfWord, Tree};
 ghost use Rattle.held_terms.specs.Held.{IsHeldAt, triple_of};
 ghost use Rattle.checker.specs.Instance.{Meets, put_for};
-ghost use Rattle.term_bench.specs.Bench.{AreHeldAt, held_by_number, history_from, is_closed_in, theorem_at};
-ghost use Rattle.term_bench.specs.Terms.{HasSubterms, compares_numbers, nodes_of, pair_steps, premise_terms, put_in_terms, theorem_terms, triple_terms};
-ghost use Rattle.term_bench.specs.inner.Marks.{HaveCode, over_code};
-ghost use Rattle.term_bench.specs.inner.Put.{IsHeldPut};
+ghost use Rattle.held_definitions.specs.Theorems.{AreHeldAt, held_by_number, theorem_at};
+ghost use Rattle.term_bench.specs.Bench.{history_from, is_closed_in};
+ghost use Rattle.held_terms.specs.Terms.{HasSubterms, nodes_of, pair_steps, theorem_terms, triple_terms};
+ghost use Rattle.term_bench.specs.LineTerms.{compares_numbers, premise_terms, put_in_terms};
+ghost use Rattle.held_definitions.specs.inner.Marks.{HaveCode, over_code};
+ghost use Rattle.held_terms.specs.inner.Put.{IsHeldPut};
 ghost use Rattle.term_bench.specs.inner.Sharing.{code_giver};
 
 use crate::held_rule::HeldRule;
-use crate::known::{has_code, has_code_within, has_own_code, have_union, is_known};
-use crate::put::{put_mem_terms, put_word_terms};
-use held_terms::{
-    Held, ImageTable, is_composition, is_discharged, is_exit, is_extension, is_frame, is_instance,
-    is_strengthened, is_weakened,
-};
+use crate::known::{has_code, has_own_code, have_union, is_known};
+use derived_triples::{has_code_within, put_mem_terms, put_word_terms};
+use held_consequence::{is_discharged, is_strengthened, is_weakened};
+use held_definitions::{is_exit, theorem};
+use held_instances::{ImageTable, is_instance};
+use held_terms::{Held, is_composition, is_extension, is_frame};
 use instr_axioms::axiom_triple;
 use proof_text::Rule;
 use rv_words::NoMemory;
@@ -37,21 +38,10 @@ use term_arena::{Arena, Steps};
 use triple_kernel::{Form, Triple, same_facts};
 use word_terms::{Code, Sub};
 
-/// The theorem of that number, if it exists and wasn't forgotten.
-pub(crate) fn theorem<'a>(arena: &Arena, held: &'a BTreeMap<u64, Held>, k: u64) -> Option<&'a Held>
-    requires { AreHeldAt arena.now held.now.entries }
-    ensures theorem { option_map (triple_of arena.now) (option_copied result)
-        ≡ theorem_at arena.now held.now.entries k }
-    ensures there { IfSome (option_copied result) (λ h. IsHeldAt arena.now h) }
-    ensures held { option_copied result ≡ held_by_number held.now.entries k }
-{
-    held.get(&k)
-}
-
 /// Whether the stated triple meets the row of the rule, after those theorems and closed
 /// definitions. Its numbers and its code are those of `put`. Where the code is the group's own, as
 /// `own` says, it isn't compared with that of a theorem that is marked.
-#[tactic(auto, using(crate::proofs::BenchLemmas::extends_none))]
+#[tactic(auto, using(held_terms::proofs::GrowthLemmas::extends_none))]
 pub(crate) fn meets<L: Ledger>(
     alloc: Global,
     g: &Group,
@@ -168,7 +158,7 @@ fn is_triple_over(t: &Triple, stated: &Triple, code: &Code) -> bool
         && same_assertion(&t.post, &stated.post)
 }
 
-#[tactic(auto, using(crate::proofs::BenchLemmas::extends_none))]
+#[tactic(auto, using(held_terms::proofs::GrowthLemmas::extends_none))]
 fn by_inst<L: Ledger>(
     alloc: Global,
     arena: &mut Arena,
@@ -203,7 +193,7 @@ fn by_inst<L: Ledger>(
     }
 }
 
-#[tactic(auto, using(held_terms::proofs::InstanceLemmas::extends_next))]
+#[tactic(auto, using(held_terms::proofs::GrowthLemmas::extends_next))]
 fn is_instance_by<L: Ledger>(
     alloc: Global,
     arena: &mut Arena,
@@ -464,7 +454,7 @@ fn by_use_exit<L: Ledger>(
 }
 
 /// Whether the further rule states the triple of those numbers from the theorem of that number.
-#[tactic(auto, using(crate::proofs::BenchLemmas::extends_none))]
+#[tactic(auto, using(held_terms::proofs::GrowthLemmas::extends_none))]
 pub(crate) fn by_further<R: HeldRule, L: Ledger>(
     alloc: Global,
     by: &R,

@@ -11,22 +11,25 @@ ghost use Rattle.proof_text.specs.Line.{code_or_own};
 ghost use Rattle.proof_text.specs.inner.OwnCode.{IsOwnCode};
 ghost use Rattle.term_arena.specs.Arena.{Extends, Tree, mem_of};
 ghost use Rattle.held_terms.specs.Held.{fact_of, register_of, side_of, triple_of};
-ghost use Rattle.held_terms.specs.Image.{IsSubAt, put_for_numbers};
+ghost use Rattle.held_instances.specs.Image.{IsSubAt, put_for_numbers};
 ghost use Rattle.held_terms.specs.Subterms.{HasFacts, HasSide};
 ghost use Rattle.short_text.specs.SpelledShort.{short_or_own};
-ghost use Rattle.term_bench.specs.Bench.{held_by_number, history_from, is_closed_in, theorem_at};
-ghost use Rattle.term_bench.specs.Fine.{AreFineFacts, AreFineMems, AreFineRegisters, IsFineHeld, IsFineSide};
+ghost use Rattle.held_definitions.specs.Theorems.{held_by_number, theorem_at};
+ghost use Rattle.term_bench.specs.Bench.{history_from, is_closed_in};
+ghost use Rattle.derived_triples.specs.Fine.{AreFineFacts, AreFineMems, AreFineRegisters, IsFineHeld, IsFineSide};
 ghost use Rattle.term_bench.specs.Short.{AreFineAt, IsFineShort, IsStatedBy};
-ghost use Rattle.term_bench.specs.Terms.{HasShort, HasSubterms, is_copied, pair_steps, theorem_terms, triple_terms};
-ghost use Rattle.term_bench.specs.inner.Making.{MadeIf};
-ghost use Rattle.term_bench.specs.inner.Marks.{HaveCode};
+ghost use Rattle.term_bench.specs.LineTerms.{HasShort, is_copied};
+ghost use Rattle.held_terms.specs.Terms.{HasSubterms, pair_steps, theorem_terms, triple_terms};
+ghost use Rattle.derived_triples.specs.inner.Making.{MadeIf};
+ghost use Rattle.held_definitions.specs.inner.Marks.{HaveCode};
 
-use crate::computed::{axiom, exit, put_in};
-use crate::copies::copy_to_share;
 use crate::known::{are_known, is_marked};
-use crate::making::{composed, discharged, extended, framed, strengthened, weakened};
 use crate::rules::is_closed;
-use held_terms::{Held, HeldFact, HeldSide, ImageTable, SharedCode};
+use derived_triples::{
+    axiom, composed, discharged, exit, extended, framed, put_in, strengthened, weakened,
+};
+use held_instances::ImageTable;
+use held_terms::{Held, HeldFact, HeldSide, SharedCode, copy_to_share};
 use rv_words::{List, NoMemory};
 use short_text::Short;
 use std::alloc::Global;

@@ -37,7 +37,7 @@ impl FurtherRule for Exchange {
 }
 
 impl HeldRule for Exchange {
-    #[tactic(auto, using(term_bench::proofs::BenchLemmas::extends_none))]
+    #[tactic(auto, using(held_terms::proofs::GrowthLemmas::extends_none))]
     fn is_stated<L: Ledger>(
         &self,
         _alloc: Global,

@@ -8,7 +8,7 @@ use Rattle.proof_text.specs.LineLimits.{IsLine}
 use Rattle.checker.specs.Instance.{no_lines}
 use Rattle.short_text.specs.declared.short.Short.{Short}
 use Rattle.term_bench.specs.Short.{IsFineShort}
-use Rattle.term_bench.specs.Terms.{AreTermsPutIn}
+use Rattle.held_terms.specs.Terms.{AreTermsPutIn}
 use Rattle.proof_v2.specs.Migration.{AreRightFor}
 use Rattle.proof_v2.specs.ShortTerms.{lines_terms}
 

@@ -2,7 +2,8 @@
 use Rattle.std.specs.Prelude.{◌≡◌, length}
 use Rattle.tailrec_lang.specs.WellFormed.{IsWellFormed}
 use Rattle.checker.specs.Sound.{Sound}
-use Rattle.term_bench.specs.Bench.{BenchState, AreHeldAt, state_group, state_history, state_nodes}
+use Rattle.term_bench.specs.Bench.{BenchState, state_group, state_history, state_nodes}
+use Rattle.held_definitions.specs.Theorems.{AreHeldAt}
 
 -- The numbers of its theorems are there, each definition has a place, the group is well-formed, each theorem is valid, and so is
 -- the triple of each exit of a closed definition.

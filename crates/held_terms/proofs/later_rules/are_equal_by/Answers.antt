@@ -1,4 +1,4 @@
-use Rattle.held_terms.proofs.InstanceLemmas.{facts_still}
+use Rattle.held_terms.proofs.GrowthLemmas.{facts_still}
 use Rattle.held_terms.proofs.LaterLemmas.{equation_there, has_equation}
 use Rattle.held_terms.proofs.later_rules.are_equal_by.Goals as goal
 

@@ -3,8 +3,8 @@ use Rattle.std.specs.Prelude.{IfOk}
 use Rattle.word_terms.specs.Tree.{MemTree, mem_tree}
 use Rattle.term_arena.specs.Arena.{OfMem}
 use Rattle.std.specs.Prelude.{map}
-use Rattle.term_bench.specs.Terms.{AreTermsPutIn}
-use Rattle.term_bench.specs.inner.Put.{AreMemsPut}
+use Rattle.held_terms.specs.Terms.{AreTermsPutIn}
+use Rattle.held_terms.specs.inner.Put.{AreMemsPut}
 use Rattle.proof_v2.proofs.FurtherPut.{rest-image}
 use Rattle.proof_v2.proofs.further.put_further_mems.Goals as goal
 

@@ -1,9 +1,9 @@
 use Rattle.std.proofs.Common.{ℕ, List, sym, ◌∙◌, subst, map}
 use Rattle.word_terms.specs.Tree.{WordTree, word_tree}
 use Rattle.sep_assert.specs.Tree.{register_tree}
-use Rattle.term_bench.specs.Terms.{AreTermsPutIn}
-use Rattle.term_bench.specs.inner.Put.{AreRegistersPut}
-use Rattle.held_terms.proofs.InstanceLemmas.{extends_next}
+use Rattle.held_terms.specs.Terms.{AreTermsPutIn}
+use Rattle.held_terms.specs.inner.Put.{AreRegistersPut}
+use Rattle.held_terms.proofs.GrowthLemmas.{extends_next}
 use Rattle.proof_v2.proofs.FurtherPut.{further-next, held_words, listed-next, register-next, word-next}
 use Rattle.proof_v2.proofs.further.put_further_registers.Goals as goal
 

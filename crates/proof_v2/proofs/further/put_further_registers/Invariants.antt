@@ -2,8 +2,8 @@ use Rattle.std.proofs.Common.{map, take}
 use Rattle.sep_assert.specs.Tree.{register_tree}
 use Rattle.frame_compose.specs.Rules.{further}
 use Rattle.term_arena.specs.Arena.{Extends, OfWord}
-use Rattle.term_bench.specs.Terms.{AreTermsPutIn}
-use Rattle.term_bench.specs.inner.Put.{AreRegistersPut}
+use Rattle.held_terms.specs.Terms.{AreTermsPutIn}
+use Rattle.held_terms.specs.inner.Put.{AreRegistersPut}
 use Rattle.proof_v2.proofs.further.put_further_registers.Given as goal
 
 abbrev pub invariant-loop-register : goal.invariant-loop-register

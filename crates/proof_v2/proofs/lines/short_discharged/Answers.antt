@@ -1,8 +1,8 @@
 use Rattle.std.proofs.Common.{List, map, flat_map, subst}
 use Rattle.triple_kernel.specs.declared.triple.Fact.{Fact}
 use Rattle.triple_kernel.specs.Tree.{fact_tree, triple_tree}
-use Rattle.term_bench.specs.Terms.{AreTermsPutIn, fact_terms}
-use Rattle.term_bench.specs.inner.Put.{AreFactsPut}
+use Rattle.held_terms.specs.Terms.{AreTermsPutIn, fact_terms}
+use Rattle.held_terms.specs.inner.Put.{AreFactsPut}
 use Rattle.proof_v2.proofs.ShortOf.{short_discharged}
 use Rattle.proof_v2.proofs.lines.short_discharged.Goals as goal
 

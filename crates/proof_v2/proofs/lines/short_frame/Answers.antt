@@ -6,7 +6,7 @@ use Rattle.triple_kernel.specs.Tree.{TripleTree, triple_tree}
 use Rattle.tailrec_lang.specs.declared.group.Group.{Group}
 use Rattle.frame_compose.specs.Rules.{IsFramed}
 use Rattle.checker.specs.Bench.{history_of}
-use Rattle.term_bench.specs.Terms.{AreTermsPutIn}
+use Rattle.held_terms.specs.Terms.{AreTermsPutIn}
 use Rattle.proof_v2.specs.ShortTerms.{further_terms}
 use Rattle.proof_v2.proofs.lines.short_frame.Goals as goal
 

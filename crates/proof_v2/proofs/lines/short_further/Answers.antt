@@ -4,10 +4,10 @@ use Rattle.sep_assert.specs.Tree.{register_tree}
 use Rattle.triple_kernel.specs.Tree.{triple_tree}
 use Rattle.frame_compose.specs.Rules.{further, rest_after}
 use Rattle.term_arena.specs.Arena.{OfMem, OfWord}
-use Rattle.term_bench.specs.Terms.{AreTermsPutIn}
-use Rattle.term_bench.specs.inner.Put.{AreMemsPut, AreRegistersPut}
-use Rattle.term_bench.proofs.PutLemmas.{registers_stay}
-use Rattle.term_bench.proofs.PutOrder.{terms-then}
+use Rattle.held_terms.specs.Terms.{AreTermsPutIn}
+use Rattle.held_terms.specs.inner.Put.{AreMemsPut, AreRegistersPut}
+use Rattle.held_terms.proofs.PutLemmas.{registers_stay}
+use Rattle.held_terms.proofs.PutOrder.{terms-then}
 use Rattle.proof_v2.proofs.ShortOf.{short_frame}
 use Rattle.proof_v2.proofs.lines.short_further.Goals as goal
 

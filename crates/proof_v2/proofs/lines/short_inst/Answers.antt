@@ -3,10 +3,10 @@ use Rattle.word_terms.specs.declared.term.Word.{Word}
 use Rattle.word_terms.specs.declared.term.Mem.{Mem}
 use Rattle.proof_text.specs.Line.{mem_put_in, word_put_in}
 use Rattle.term_arena.specs.Arena.{OfMem, OfWord}
-use Rattle.term_bench.specs.Terms.{AreTermsPutIn}
-use Rattle.term_bench.specs.inner.Put.{AreMemTermsPut, AreRegistersPut}
-use Rattle.term_bench.proofs.PutLemmas.{registers_stay}
-use Rattle.term_bench.proofs.PutOrder.{terms-then}
+use Rattle.held_terms.specs.Terms.{AreTermsPutIn}
+use Rattle.held_terms.specs.inner.Put.{AreMemTermsPut, AreRegistersPut}
+use Rattle.held_terms.proofs.PutLemmas.{registers_stay}
+use Rattle.held_terms.proofs.PutOrder.{terms-then}
 use Rattle.proof_v2.proofs.ShortOf.{short_inst}
 use Rattle.proof_v2.proofs.lines.short_inst.Goals as goal
 

@@ -5,7 +5,7 @@ use Rattle.triple_kernel.specs.Tree.{triple_tree}
 use Rattle.proof_text.specs.Line.{RuleTree, Axiom, Compose, Discharge, ExtendCode, Frame, Inst, States, Strengthen, UseExit, Weaken, rule_tree}
 use Rattle.checker.specs.Bench.{group_of, history_of}
 use Rattle.checker.specs.Instance.{Meets}
-use Rattle.term_bench.specs.Terms.{AreTermsPutIn}
+use Rattle.held_terms.specs.Terms.{AreTermsPutIn}
 use Rattle.proof_v2.specs.ShortTerms.{line_terms}
 use Rattle.proof_v2.proofs.ShortOf.{of_rule, short_axiom, short_compose, short_exit}
 use Rattle.proof_v2.proofs.lines.short_rule.Goals as goal

@@ -2,10 +2,10 @@ use Rattle.std.proofs.Common.{List, map, flat_map, subst}
 use Rattle.triple_kernel.specs.declared.triple.Fact.{Fact}
 use Rattle.sep_assert.specs.Tree.{assertion_tree}
 use Rattle.triple_kernel.specs.Tree.{fact_tree, triple_tree}
-use Rattle.term_bench.specs.Terms.{AreTermsPutIn, assertion_terms, fact_terms}
-use Rattle.term_bench.specs.inner.Put.{AreFactsPut}
-use Rattle.term_bench.proofs.PutLemmas.{facts_stay}
-use Rattle.term_bench.proofs.PutOrder.{terms-then}
+use Rattle.held_terms.specs.Terms.{AreTermsPutIn, assertion_terms, fact_terms}
+use Rattle.held_terms.specs.inner.Put.{AreFactsPut}
+use Rattle.held_terms.proofs.PutLemmas.{facts_stay}
+use Rattle.held_terms.proofs.PutOrder.{terms-then}
 use Rattle.proof_v2.proofs.ShortOf.{short_strengthened}
 use Rattle.proof_v2.proofs.lines.short_strengthened.Goals as goal
 

@@ -6,7 +6,7 @@ use Rattle.proof_text.specs.Line.{Loop, line_tree}
 use Rattle.proof_text.specs.LineLimits.{IsLine}
 use Rattle.checker.specs.Bench.{group_of, history_of}
 use Rattle.checker.specs.Instance.{Instance}
-use Rattle.term_bench.specs.Terms.{AreTermsPutIn}
+use Rattle.held_terms.specs.Terms.{AreTermsPutIn}
 use Rattle.short_text.specs.declared.short.Short.{Short}
 use Rattle.short_text.specs.declared.short.Short.TheVariants as short
 use Rattle.proof_v2.specs.ShortTerms.{line_terms}

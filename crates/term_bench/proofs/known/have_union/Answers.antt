@@ -1,5 +1,5 @@
 use Rattle.std.proofs.Common.{◌∙◌}
-use Rattle.term_bench.proofs.MarkLemmas.{union_first}
+use Rattle.held_definitions.proofs.MarkLemmas.{union_first}
 use Rattle.term_bench.proofs.known.have_union.Goals as goal
 
 pub returns-then-first_known : goal.returns-then-first_known

@@ -1,6 +1,6 @@
 use Rattle.std.proofs.Common.{Option, sym, subst, arith}
 use Rattle.triple_kernel.specs.Tree.{TripleTree}
-use Rattle.term_bench.specs.Terms.{HasSubterms, theorem_terms}
+use Rattle.held_terms.specs.Terms.{HasSubterms, theorem_terms}
 use Rattle.term_bench.proofs.rules.by_inst.Goals as goal
 
 pub returns-in-Some-clause-steps : goal.returns-in-Some-clause-steps

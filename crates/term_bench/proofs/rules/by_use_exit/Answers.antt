@@ -1,4 +1,4 @@
-use Rattle.term_bench.proofs.SubtermLemmas.{held_at}
+use Rattle.held_terms.proofs.SubtermLemmas.{held_at}
 use Rattle.term_bench.proofs.rules.by_use_exit.Goals as goal
 
 pub returns-then-is_closed-clause-steps : goal.returns-then-is_closed-clause-steps

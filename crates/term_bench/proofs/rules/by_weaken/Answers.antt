@@ -3,8 +3,8 @@ use Rattle.std.specs.Prelude.{◌↔◌, IsSomeAnd}
 use Rattle.triple_kernel.specs.Rules.{IsWeakened}
 use Rattle.triple_kernel.specs.Tree.{TripleTree}
 use Rattle.held_terms.specs.Held.{triple_of}
-use Rattle.term_bench.specs.Terms.{HasSubterms, theorem_terms}
-use Rattle.term_bench.proofs.SubtermLemmas.{held_at}
+use Rattle.held_terms.specs.Terms.{HasSubterms, theorem_terms}
+use Rattle.held_terms.proofs.SubtermLemmas.{held_at}
 use Rattle.term_bench.proofs.rules.by_weaken.Goals as goal
 
 pub returns-in-Some-clause-answer : goal.returns-in-Some-clause-answer

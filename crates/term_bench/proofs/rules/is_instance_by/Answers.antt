@@ -7,14 +7,14 @@ use Rattle.word_terms.specs.declared.term.Mem.{Mem}
 use Rattle.proof_text.specs.Line.{mem_put_in, word_put_in}
 use Rattle.triple_kernel.specs.Rules.{IsInst}
 use Rattle.held_terms.specs.Held.{triple_of}
-use Rattle.held_terms.specs.Image.{IsSubAt, put_for_numbers}
-use Rattle.held_terms.proofs.InstanceLemmas.{extends_next, held_still}
-use Rattle.held_terms.proofs.AskedLemmas.{held_asked}
-use Rattle.term_bench.specs.Terms.{nodes_of}
-use Rattle.term_bench.specs.inner.Put.{AreMemTermsPut, AreRegistersPut}
-use Rattle.term_bench.proofs.PutSteps.{nodes_then}
-use Rattle.term_bench.proofs.SubtermLemmas.{held_at}
-use Rattle.term_bench.proofs.PutLemmas.{registers_stay}
+use Rattle.held_instances.specs.Image.{IsSubAt, put_for_numbers}
+use Rattle.held_terms.proofs.GrowthLemmas.{extends_next, held_still}
+use Rattle.held_instances.proofs.AskedLemmas.{held_asked}
+use Rattle.held_terms.specs.Terms.{nodes_of}
+use Rattle.held_terms.specs.inner.Put.{AreMemTermsPut, AreRegistersPut}
+use Rattle.held_terms.proofs.PutSteps.{nodes_then}
+use Rattle.held_terms.proofs.SubtermLemmas.{held_at}
+use Rattle.held_terms.proofs.PutLemmas.{registers_stay}
 use Rattle.term_bench.proofs.RuleLemmas.{inst_row, sub_put}
 use Rattle.term_bench.proofs.rules.is_instance_by.Goals as goal
 

@@ -5,9 +5,11 @@ use Rattle.triple_kernel.specs.Tree.{TripleTree, triple_tree}
 use Rattle.proof_text.specs.declared.line.Rule.{Rule}
 use Rattle.proof_text.specs.Line.{rule_tree, triple_or_own}
 use Rattle.held_terms.specs.Held.{triple_of}
-use Rattle.term_bench.specs.Bench.{history_from, theorem_at}
-use Rattle.term_bench.specs.Terms.{HasSubterms, compares_numbers, nodes_of, pair_steps, premise_terms, put_in_terms, triple_terms}
-use Rattle.term_bench.proofs.PutSteps.{looks_within, pairs_within, searches_within, terms_within}
+use Rattle.term_bench.specs.Bench.{history_from}
+use Rattle.held_definitions.specs.Theorems.{theorem_at}
+use Rattle.held_terms.specs.Terms.{HasSubterms, nodes_of, pair_steps, triple_terms}
+use Rattle.term_bench.specs.LineTerms.{compares_numbers, premise_terms, put_in_terms}
+use Rattle.held_terms.proofs.PutSteps.{looks_within, pairs_within, searches_within, terms_within}
 use Rattle.term_bench.proofs.RuleLemmas.{rule_row}
 use Rattle.term_bench.proofs.rules.meets.Goals as goal
 

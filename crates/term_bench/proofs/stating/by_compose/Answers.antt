@@ -1,7 +1,7 @@
 use Rattle.std.proofs.Common.{Option, sym, subst}
 use Rattle.held_terms.specs.declared.held.Held.{Held}
-use Rattle.term_bench.specs.Bench.{held_by_number}
-use Rattle.term_bench.specs.inner.Marks.{HaveSameCode}
+use Rattle.held_definitions.specs.Theorems.{held_by_number}
+use Rattle.held_definitions.specs.inner.Marks.{HaveSameCode}
 use Rattle.term_bench.proofs.stating.by_compose.Goals as goal
 
 pub composed_with-requires-clause-known : goal.composed_with-requires-clause-known

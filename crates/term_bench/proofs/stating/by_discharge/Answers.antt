@@ -2,8 +2,8 @@ use Rattle.std.proofs.Common.{List, Option, sym, subst, arith}
 use Rattle.triple_kernel.specs.Tree.{TripleTree}
 use Rattle.held_terms.specs.declared.held.HeldFact.{HeldFact}
 use Rattle.held_terms.specs.Subterms.{HasFacts}
-use Rattle.term_bench.specs.Terms.{HasSubterms, theorem_terms}
-use Rattle.term_bench.proofs.SubtermLemmas.{held_at}
+use Rattle.held_terms.specs.Terms.{HasSubterms, theorem_terms}
+use Rattle.held_terms.proofs.SubtermLemmas.{held_at}
 use Rattle.term_bench.proofs.stating.by_discharge.Goals as goal
 
 pub returns-in-Some-clause-steps : goal.returns-in-Some-clause-steps

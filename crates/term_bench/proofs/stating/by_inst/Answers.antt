@@ -3,9 +3,9 @@ use Rattle.std.specs.Prelude.{IsSomeAnd}
 use Rattle.triple_kernel.specs.Rules.{IsInst}
 use Rattle.triple_kernel.specs.Tree.{TripleTree}
 use Rattle.held_terms.specs.Held.{triple_of}
-use Rattle.held_terms.specs.Image.{put_for_numbers}
-use Rattle.term_bench.specs.inner.Making.{MadeIf}
-use Rattle.term_bench.specs.Terms.{HasSubterms, theorem_terms}
+use Rattle.held_instances.specs.Image.{put_for_numbers}
+use Rattle.derived_triples.specs.inner.Making.{MadeIf}
+use Rattle.held_terms.specs.Terms.{HasSubterms, theorem_terms}
 use Rattle.term_bench.proofs.stating.by_inst.Goals as goal
 
 pub returns-in_ok-made-in-Some-clause-made : goal.returns-in_ok-made-in-Some-clause-made

@@ -3,12 +3,13 @@ use Rattle.tailrec_lang.specs.Tree.{group_tree}
 use Rattle.proof_text.specs.Line.{code_or_own}
 use Rattle.short_text.specs.declared.short.Short.{Short}
 use Rattle.short_text.specs.SpelledShort.{short_or_own}
-use Rattle.term_bench.specs.Bench.{history_from, theorem_at}
+use Rattle.term_bench.specs.Bench.{history_from}
+use Rattle.held_definitions.specs.Theorems.{theorem_at}
 use Rattle.term_bench.specs.Short.{IsFineShort, IsStatedBy}
-use Rattle.term_bench.specs.inner.Making.{MadeIf}
+use Rattle.derived_triples.specs.inner.Making.{MadeIf}
 use Rattle.term_bench.proofs.StatingLemmas.{axiom_from, axiom_to, compose_from, compose_to, discharge_from, discharge_to, extend_from, extend_to, frame_from, frame_to, inst_from, inst_to, made_ok, strengthen_from, strengthen_to, use_from, use_to, weaken_from, weaken_to}
-use Rattle.term_bench.specs.Terms.{HasShort, is_copied}
-use Rattle.term_bench.proofs.PutSteps.{fours_within, pairs_within, searches_within, terms_within}
+use Rattle.term_bench.specs.LineTerms.{HasShort, is_copied}
+use Rattle.held_terms.proofs.PutSteps.{fours_within, pairs_within, searches_within, terms_within}
 use Rattle.term_bench.proofs.stating.stated_by.Goals as goal
 
 pub returns-in-Axiom-clause-made : goal.returns-in-Axiom-clause-made

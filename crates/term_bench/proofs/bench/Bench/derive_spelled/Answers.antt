@@ -7,7 +7,9 @@ use Rattle.term_bench.proofs.OwnLines.{spelled_forget, spelled_loop}
 use Rattle.term_bench.proofs.StatingLemmas.{forget_left, loop_left, on_both, stated_only}
 use Rattle.short_text.specs.declared.short.Short.{Short}
 use Rattle.short_text.specs.declared.short.Short.TheVariants.{Loop, Forget}
-use Rattle.term_bench.specs.Terms.{HasShort, closing_terms, is_copied, nodes_of}
+use Rattle.term_bench.specs.LineTerms.{HasShort, is_copied}
+use Rattle.held_definitions.specs.ClosingTerms.{closing_terms}
+use Rattle.held_terms.specs.Terms.{nodes_of}
 use Rattle.term_bench.proofs.bench.Bench.derive_spelled.Goals as goal
 
 pub returns-in-Loop-clause-left : goal.returns-in-Loop-clause-left

@@ -10,7 +10,7 @@ use Rattle.short_text.specs.SpelledShort.{short_or_own}
 use Rattle.checker.specs.Instance.{with_theorem}
 use Rattle.term_bench.specs.Bench.{state_group, state_history, state_nodes}
 use Rattle.term_bench.specs.Short.{IsStatedBy}
-use Rattle.term_bench.specs.inner.Making.{MadeIf}
+use Rattle.derived_triples.specs.inner.Making.{MadeIf}
 use Rattle.term_bench.proofs.BenchLemmas.{same_with}
 use Rattle.term_bench.proofs.StatingLemmas.{stated_left}
 use Rattle.term_bench.proofs.bench.Bench.derive_triple.Goals as goal

@@ -4,7 +4,7 @@ use Rattle.checker.specs.Instance.{without}
 use Rattle.checker.specs.Sound.{Sound}
 use Rattle.term_bench.specs.Bench.{BenchState, state_group, state_history}
 use Rattle.term_bench.proofs.BenchLemmas.{history_less, sound_less}
-use Rattle.term_bench.proofs.MarkLemmas.{unmarked_changed}
+use Rattle.held_definitions.proofs.MarkLemmas.{unmarked_changed}
 use Rattle.term_bench.proofs.bench.Bench.forget.Goals as goal
 
 pub invariant_of-self : goal.invariant_of-self

@@ -3,7 +3,8 @@ use Rattle.std.specs.Prelude.{◌↔◌, slice_get}
 use Rattle.term_arena.specs.Arena.{Extends}
 use Rattle.loop_rule.specs.Rule.{IsClosedBy}
 use Rattle.term_bench.specs.Bench.{BenchState, state_group, state_history, state_nodes}
-use Rattle.term_bench.specs.Terms.{closing_terms, nodes_of}
+use Rattle.held_definitions.specs.ClosingTerms.{closing_terms}
+use Rattle.held_terms.specs.Terms.{nodes_of}
 use Rattle.term_bench.proofs.BenchLemmas.{history_stays, sound_grown}
 use Rattle.term_bench.proofs.bench.Bench.is_closed_by.Goals as goal
 

@@ -1,10 +1,11 @@
 use Rattle.term_bench.specs.Bench.{state_group, state_history, state_nodes}
-use Rattle.term_bench.proofs.BenchLemmas.{extends_same}
-use Rattle.term_bench.proofs.PutSteps.{one_within}
+use Rattle.held_terms.proofs.GrowthLemmas.{extends_same}
+use Rattle.held_terms.proofs.PutSteps.{one_within}
 use Rattle.std.proofs.Common.{◌≡◌, ◌+◌, ◌≤◌, length, true, true≢false, sym, ap, subst, ◌∙◌, arith}
 use Rattle.proof_text.specs.declared.line.Line.{Line}
 use Rattle.proof_text.specs.Line.{line_or_own, line_tree}
-use Rattle.term_bench.specs.Terms.{HasLine, is_compared, is_loop, loop_terms, nodes_of, pair_steps, stated_triple_terms, whole_line_terms}
+use Rattle.term_bench.specs.LineTerms.{HasLine, is_compared, is_loop, loop_terms, stated_triple_terms, whole_line_terms}
+use Rattle.held_terms.specs.Terms.{nodes_of, pair_steps}
 use Rattle.term_bench.proofs.bench.Bench.judge_spelled.Goals as goal
 
 pub returns-in-Forget-clause-grows : goal.returns-in-Forget-clause-grows

@@ -4,7 +4,7 @@ use Rattle.checker.specs.Instance.{with_theorem}
 use Rattle.checker.specs.Sound.{Sound}
 use Rattle.term_bench.specs.Bench.{BenchState, state_group, state_history, state_nodes}
 use Rattle.term_bench.proofs.BenchLemmas.{history_more, sound_more}
-use Rattle.term_bench.proofs.MarkLemmas.{unmarked_changed}
+use Rattle.held_definitions.proofs.MarkLemmas.{unmarked_changed}
 use Rattle.term_bench.proofs.bench.Bench.keep.Goals as goal
 
 pub invariant_of-self-2 : goal.invariant_of-self-2

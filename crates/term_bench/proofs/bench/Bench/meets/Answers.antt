@@ -8,8 +8,9 @@ use Rattle.triple_kernel.specs.Tree.{triple_tree}
 use Rattle.proof_text.specs.Line.{rule_tree, triple_or_own}
 use Rattle.checker.specs.Instance.{Meets}
 use Rattle.term_bench.specs.Bench.{BenchState, history_from, state_group, state_history, state_nodes}
-use Rattle.term_bench.specs.Terms.{HasSubterms, premise_terms}
-use Rattle.term_bench.specs.inner.Put.{IsHeldPut}
+use Rattle.held_terms.specs.Terms.{HasSubterms}
+use Rattle.term_bench.specs.LineTerms.{premise_terms}
+use Rattle.held_terms.specs.inner.Put.{IsHeldPut}
 use Rattle.term_bench.proofs.BenchLemmas.{history_stays, sound_grown}
 use Rattle.term_bench.proofs.RuleLemmas.{same_next}
 use Rattle.term_bench.proofs.bench.Bench.meets.Goals as goal

@@ -1,5 +1,5 @@
 use Rattle.term_bench.proofs.BenchLemmas.{nothing_held, sound_first}
-use Rattle.term_bench.proofs.MarkLemmas.{none_marked}
+use Rattle.held_definitions.proofs.MarkLemmas.{none_marked}
 use Rattle.term_bench.proofs.bench.Bench.new.Goals as goal
 
 pub invariant_of-result : goal.invariant_of-result

@@ -5,11 +5,12 @@ use Rattle.proof_text.specs.Line.{States, rule_tree, triple_or_own}
 use Rattle.term_arena.specs.declared.node.Node.{Node}
 use Rattle.term_arena.specs.Arena.{Extends}
 use Rattle.held_terms.specs.Held.{triple_of}
-use Rattle.held_terms.proofs.InstanceLemmas.{extends_next, held_still, same_triple}
+use Rattle.held_terms.proofs.GrowthLemmas.{extends_next, held_still, same_triple}
 use Rattle.checker.specs.Instance.{History, Meets, with_theorem}
 use Rattle.term_bench.specs.Bench.{state_group, state_history, state_nodes}
-use Rattle.term_bench.specs.Terms.{HasSubterms, nodes_of, premise_terms, put_in_terms, triple_terms}
-use Rattle.term_bench.proofs.PutSteps.{nodes_then}
+use Rattle.held_terms.specs.Terms.{HasSubterms, nodes_of, triple_terms}
+use Rattle.term_bench.specs.LineTerms.{premise_terms, put_in_terms}
+use Rattle.held_terms.proofs.PutSteps.{nodes_then}
 use Rattle.term_bench.proofs.BenchLemmas.{meets_over, meets_same, same_with}
 use Rattle.term_bench.proofs.bench.Bench.state.Goals as goal
 

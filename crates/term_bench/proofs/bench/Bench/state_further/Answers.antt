@@ -7,7 +7,7 @@ use Rattle.proof_text.specs.Line.{Further, triple_or_own}
 use Rattle.term_arena.specs.declared.node.Node.{Node}
 use Rattle.term_arena.specs.Arena.{Extends}
 use Rattle.held_terms.specs.Held.{triple_of}
-use Rattle.held_terms.proofs.InstanceLemmas.{extends_next, held_still, same_triple}
+use Rattle.held_terms.proofs.GrowthLemmas.{extends_next, held_still, same_triple}
 use Rattle.checker.specs.Instance.{History, with_theorem}
 use Rattle.term_bench.specs.Bench.{state_group, state_history, state_nodes}
 use Rattle.term_bench.proofs.BenchLemmas.{further_same, same_with}

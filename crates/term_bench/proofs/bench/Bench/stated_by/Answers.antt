@@ -3,12 +3,13 @@ use Rattle.tailrec_lang.specs.Tree.{group_tree}
 use Rattle.term_arena.specs.Arena.{Extends}
 use Rattle.proof_text.specs.inner.OwnCode.{IsOwnCode}
 use Rattle.short_text.specs.SpelledShort.{short_or_own}
-use Rattle.term_bench.specs.Bench.{BenchState, history_from, is_closed_in, state_group, state_history, state_nodes, theorem_at}
+use Rattle.term_bench.specs.Bench.{BenchState, history_from, is_closed_in, state_group, state_history, state_nodes}
+use Rattle.held_definitions.specs.Theorems.{theorem_at}
 use Rattle.term_bench.specs.Short.{AreWithin, IsFineShort, IsStatedBy}
-use Rattle.term_bench.specs.inner.Making.{MadeIf}
+use Rattle.derived_triples.specs.inner.Making.{MadeIf}
 use Rattle.term_bench.proofs.BenchLemmas.{history_stays, sound_grown}
 use Rattle.term_bench.proofs.StatingLemmas.{fine_held, made_ok, stated_next}
-use Rattle.term_bench.specs.Terms.{HasShort}
+use Rattle.term_bench.specs.LineTerms.{HasShort}
 use Rattle.term_bench.proofs.bench.Bench.stated_by.Goals as goal
 
 pub stated_by-requires-clause-code : goal.stated_by-requires-clause-code

@@ -1,0 +1,9 @@
+pub mod AloneLemmas
+pub mod ClassLemmas
+pub mod CondLemmas
+pub mod FindLemmas
+pub mod PlaceLemmas
+pub mod SeekLemmas
+pub mod SideLemmas
+pub mod SwapLemmas
+pub mod TableLemmas

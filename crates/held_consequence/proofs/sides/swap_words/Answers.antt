@@ -1,0 +1,5 @@
+use Rattle.held_consequence.proofs.SideLemmas.{right_kept}
+use Rattle.held_consequence.proofs.sides.swap_words.Goals as goal
+
+pub returns-clause-right : goal.returns-clause-right
+returns-clause-right g c = right_kept _ _ _ _ c.requires.right c.in_ok-v.ensures.decided

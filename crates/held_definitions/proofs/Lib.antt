@@ -1,0 +1,9 @@
+pub mod ExitLemmas
+pub mod LookLemmas
+pub mod AskedLemmas
+pub mod LeafLemmas
+pub mod LeafSteps
+pub mod TheoremLemmas
+pub mod MarkLemmas
+pub mod ExitParts
+pub mod ExitSteps

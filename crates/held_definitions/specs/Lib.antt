@@ -1,0 +1,4 @@
+pub mod Looks
+pub mod Theorems
+pub mod ClosingTerms
+pub mod inner

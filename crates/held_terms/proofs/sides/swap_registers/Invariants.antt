@@ -1,7 +1,0 @@
-use Rattle.std.proofs.Common.{map, take}
-use Rattle.held_terms.specs.Held.{fact_of}
-use Rattle.held_terms.specs.inner.SideTables.{RegistersSwap}
-use Rattle.held_terms.proofs.sides.swap_registers.Given as goal
-
-abbrev pub invariant-loop-i : goal.invariant-loop-i
-invariant-loop-i g l = RegistersSwap l.arena (map (fact_of l.arena) l.facts) l.a l.b (take l.i l.a) (take l.i l.b) l.fn.known l.known l.fn.steps l.steps

@@ -1,5 +1,0 @@
-use Rattle.term_bench.specs.inner.Asked.{AreUpTo}
-use Rattle.term_bench.proofs.asked.all_up_to.Given as goal
-
-abbrev pub invariant-loop-i : goal.invariant-loop-i
-invariant-loop-i l = AreUpTo l.i l.all

@@ -1,9 +1,0 @@
-use Rattle.std.proofs.Common.{length}
-use Rattle.term_bench.specs.inner.Asked.{IsParted}
-use Rattle.term_bench.proofs.asked.take_gone.Given as goal
-
-abbrev pub invariant-loop-places : goal.invariant-loop-places
-invariant-loop-places l = IsParted l.fn.places l.places l.gone
-
-abbrev pub decreases-loop-places : goal.decreases-loop-places
-decreases-loop-places l = length l.places.entries

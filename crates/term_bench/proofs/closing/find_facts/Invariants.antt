@@ -1,7 +1,0 @@
-use Rattle.std.proofs.Common.{drop, map}
-use Rattle.held_terms.specs.Held.{fact_of}
-use Rattle.term_bench.specs.inner.Asked.{AreFound}
-use Rattle.term_bench.proofs.closing.find_facts.Given as goal
-
-abbrev pub invariant-loop-fact : goal.invariant-loop-fact
-invariant-loop-fact l = AreFound l.asked.stamps (map (fact_of l.arena) l.way) (map (fact_of l.arena) l.facts) l.places (drop l.fact-index l.left)

@@ -1,8 +1,0 @@
-use Rattle.std.proofs.Common.{arith}
-use Rattle.term_bench.proofs.exits.constant.Goals as goal
-
-pub returns-in_err-k-clause-steps : goal.returns-in_err-k-clause-steps
-returns-in_err-k-clause-steps g c = let one = c.add.ensures.steps in omega (arith, one)
-
-pub returns-clause-steps : goal.returns-clause-steps
-returns-clause-steps g c = let one = c.add.ensures.steps in omega (arith, one)
