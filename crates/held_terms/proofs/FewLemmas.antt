@@ -56,8 +56,19 @@ in_pairs {A} {B} (x ∷ ys) zs zero y z e c =
     subst (λ (v : A). Contains (map f zs ++ pairs ys zs) (v, z)) d (Contains-append_left (map f zs) (pairs ys zs) (x, z) (contains_at (map f zs) at.0 (x, z) (map-at f zs at.0 z at.1)))
 in_pairs {A} {B} (x ∷ ys) zs (suc i) y z e c = Contains-append_right (map (λ w. (x, w)) zs) (pairs ys zs) (y, z) (in_pairs ys zs i y z e c)
 
--- ---- how many
+-- ---- places of a list
 
+pub within : {A : Type 0} (xs : List A) (k : ℕ) (x : A) → slice_get xs k ≡ Some x → k < length xs
+within [] k x e = absurd (cc)
+within (y ∷ ys) zero x e = omega arith
+within (y ∷ ys) (suc k) x e = let rest = within ys k x e in omega (arith, rest)
+
+pub read-at : {A : Type 0} (xs : List A) (k : ℕ) (x d : A) → slice_get xs k ≡ Some x → get_or xs k d ≡ x
+read-at [] k x d e = absurd (cc)
+read-at (y ∷ ys) zero x d e = cc
+read-at (y ∷ ys) (suc k) x d e = read-at ys k x d e
+
+-- in a list that rises a number has one place
 pub one-place : (ks : List ℕ) (i j k : ℕ) → IsStrictlySortedBy nat_cmp ks → slice_get ks i ≡ Some k → slice_get ks j ≡ Some k → i ≡ j
 one-place ks i j k o hi hj = elim (cases_order i j) [
   | inl same ↦ same
@@ -70,15 +81,3 @@ one-place ks i j k o hi hj = elim (cases_order i j) [
         let ka = read-at ks a k 0 ha in
         let kb = read-at ks b k 0 hb in
         omega (arith, rises, ka, kb)
-
--- ---- different variables
-
-pub within : {A : Type 0} (xs : List A) (k : ℕ) (x : A) → slice_get xs k ≡ Some x → k < length xs
-within [] k x e = absurd (cc)
-within (y ∷ ys) zero x e = omega arith
-within (y ∷ ys) (suc k) x e = let rest = within ys k x e in omega (arith, rest)
-
-pub read-at : {A : Type 0} (xs : List A) (k : ℕ) (x d : A) → slice_get xs k ≡ Some x → get_or xs k d ≡ x
-read-at [] k x d e = absurd (cc)
-read-at (y ∷ ys) zero x d e = cc
-read-at (y ∷ ys) (suc k) x d e = read-at ys k x d e
