@@ -20,7 +20,10 @@ use proof_text::{put_cited, put_form, put_stated_code, put_theorems};
 use rv_words::{Bytes, NoMemory};
 use tailrec_lang::Group;
 use term_arena::Node;
-use term_text::{name_of_comparison, name_of_extension, name_of_inside, name_of_load, name_of_operation, name_of_store};
+use term_text::{
+    name_of_comparison, name_of_extension, name_of_inside, name_of_load, name_of_operation,
+    name_of_store,
+};
 use triple_kernel::Form;
 use word_terms::Code;
 
