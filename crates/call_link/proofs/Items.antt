@@ -1,10 +1,8 @@
 -- The item of a name, of all functions that calls lead to from its address.
-use Rattle.std.proofs.Common.{◌≡◌, ℕ, suc, ◌-◌, ◌≤◌, Bool, true, false, cond, List, [], ◌∷◌, ◌++◌, map, length, get_or, take, Result, Ok, Err, refl, sym, arith, subst, ◌∙◌}
-use Rattle.std.specs.List.{AllByRecursion, AllZip, Contains}
-use Rattle.rv_words.specs.Bytes.{AreBytes}
+use Rattle.std.proofs.Common.{◌≡◌, ℕ, suc, ◌-◌, ◌≤◌, Bool, true, false, cond, List, [], ◌∷◌, ◌++◌, map, length, get_or, Ok, refl, sym, arith, subst, ◌∙◌}
+use Rattle.std.specs.List.{AllByRecursion, Contains}
+use Rattle.rv_words.specs.Bytes.{AreBytes, Bytes}
 use Rattle.elf_image.specs.Image.{code_of_file}
-use Rattle.elf_image.specs.declared.symbol.NameFault.{NameFault}
-use Rattle.elf_image.specs.declared.symbol.NameFault.TheVariants as name_fault
 use Rattle.tailrec_lang.specs.Registers.{AreRegistersFrom}
 use Rattle.tailrec_lang.specs.Tree.{DefTree, GroupTree, group_tree}
 use Rattle.group_text.specs.Limits.{IsDef, IsGroupIn, IsName}
@@ -15,12 +13,10 @@ use Rattle.checker.specs.Accepts.{IsAcceptedBy}
 use Rattle.claims.specs.Turns.{InFirstMemory, RunsBack}
 use Rattle.exactness.proofs.Counts.{Returning, counts-of, exact-of}
 use Rattle.exactness.proofs.Members.{members-gain}
-use Rattle.call_graph.specs.Causes.{IsCallGraphFault, IsCause}
+use Rattle.call_graph.specs.Causes.{IsCallGraphFault}
 use Rattle.call_graph.specs.Functions.{AreFunctions}
 use Rattle.call_graph.specs.declared.fault.CallGraphFault.{CallGraphFault}
 use Rattle.call_graph.specs.declared.fault.CallGraphFault.TheVariants as graph
-use Rattle.call_graph.specs.declared.fault.LinkWhy.{LinkWhy}
-use Rattle.call_graph.specs.declared.fault.LinkWhy.TheVariants.{Outside}
 use Rattle.call_graph.proofs.OneAnswer.{no_cause}
 use Rattle.code_parts.specs.Bodies.{part_def}
 use Rattle.code_parts.specs.declared.part.Part.{Part}
@@ -36,49 +32,19 @@ use Rattle.path_walk.specs.declared.item.Item.{Item}
 use Rattle.path_walk.specs.Closed.{AreClosedIn}
 use Rattle.path_walk.specs.Linked.{IsLinkedItem}
 use Rattle.path_walk.proofs.PartLimits.{part-printed}
-use Rattle.decompiler.specs.Listing.{AreDefsOf, IsItemBy, Lists}
+use Rattle.decompiler.specs.Listing.{AreDefsOf, Lists}
 use Rattle.decompiler.specs.Names.{StandsFor}
-use Rattle.decompiler.specs.inner.Functions.{outside_of}
+use Rattle.decompiler.specs.inner.Functions.{IsRefusedAt}
 use Rattle.decompiler.proofs.CodeListed.{ranges_small}
-use Rattle.decompiler.proofs.Fragment.{stands_once}
-use Rattle.decompiler.proofs.InOrder.{IsListed, first-fault}
-use Rattle.call_link.specs.Faults.{IsLinkFirst, Missing, Doubled, InFunctions}
+use Rattle.decompiler.proofs.Fragment.{none-first}
 use Rattle.call_link.specs.Listing.{IsLinkedItemFor, linked_form}
-use Rattle.call_link.specs.Refusals.{IsLinkFaultOf}
-use Rattle.call_link.specs.inner.Functions.{IsNoLinkedItem, refusal}
 use Rattle.call_link.proofs.InFunctions.{defs-made, entries-listed, lists-linked, sizes-listed}
 use Rattle.group_text.specs.declared.version.Version.TheVariants.{Three}
 
--- ---- faults
-
--- what has no linked functions has this fault
-pub none-linked : (file name : List ℕ) (e : ℕ) (why : CallGraphFault) → StandsFor file name (Ok e) → IsCallGraphFault (code_of_file file) e why → IsNoLinkedItem file name why
-none-linked file name e (graph.Refused why) stands h = InFunctions stands h
-none-linked file name e graph.NoMemory stands h = tt
-
-pub none-named : (file name : List ℕ) (why : NameFault) → StandsFor file name (Err why) → IsLinkFirst file name (Outside (outside_of why))
-none-named file name name_fault.NoSuch stands = Missing stands
-none-named file name (name_fault.Ambiguous a b) stands = Doubled stands
-
-other : (e : ℕ) (why : NameFault) (v w : Result ℕ NameFault) → v ≡ Ok e → w ≡ Err why → v ≡ w → ⊥
-other e why v w p q r = cc
-
-same : (e a : ℕ) (v w : Result ℕ NameFault) → v ≡ Ok e → w ≡ Ok a → v ≡ w → e ≡ a
-same e a v w p q r = cc
-
--- a name whose functions are linked has no fault
-pub can-be-linked : (file name : List ℕ) (e : ℕ) (s : LinkedGroup) → StandsFor file name (Ok e) → AreFunctions (code_of_file file) e (functions_of s) → (why : LinkWhy) → IsLinkFirst file name why → ⊥
-can-be-linked file name e s stands are _ (Missing t) = other e name_fault.NoSuch (Ok e) (Err name_fault.NoSuch) refl refl (stands_once file name (Ok e) (Err name_fault.NoSuch) stands t)
-can-be-linked file name e s stands are _ (Doubled {a = a} {b = b} t) = other e (name_fault.Ambiguous a b) (Ok e) (Err (name_fault.Ambiguous a b)) refl refl (stands_once file name (Ok e) (Err (name_fault.Ambiguous a b)) stands t)
-can-be-linked file name e s stands are why (InFunctions {e = d} t cause) =
-    let one : d ≡ e = same d e (Ok d) (Ok e) refl refl (stands_once file name (Ok d) (Ok e) t stands) in
-    no_cause (code_of_file file) e (functions_of s) why are (subst (λ (x : ℕ). IsCause (code_of_file file) x why) one cause)
-
--- the first name without an item is refused
-pub none-linked-listed : (file : List ℕ) (names : List (List ℕ)) (i : ℕ) (name : List ℕ) (items : List Item) → IsListed names i name → AllZip (IsItemBy linked_form file) (take i names) items
-    → (why : CallGraphFault) → IsNoLinkedItem file name why → IsLinkFaultOf file names (refusal i why)
-none-linked-listed file names i name items at before (graph.Refused why) none = first-fault linked_form file names i name items at before why none
-none-linked-listed file names i name items at before graph.NoMemory none = tt
+-- what has no linked functions is refused
+pub refused-linked : (code : Bytes) (e : ℕ) (why : CallGraphFault) → IsCallGraphFault code e why → IsRefusedAt linked_form code e why
+refused-linked code e (graph.Refused why) h = h
+refused-linked code e graph.NoMemory h = tt
 
 -- ---- the item
 
@@ -134,7 +100,7 @@ pub linked-is : (file name : List ℕ) (e : ℕ) (s : LinkedGroup) (item : Item)
 linked-is file name e s item stands named bytes are group is = record {
   entry = e;
   stands = stands;
-  inside = can-be-linked file name e s stands are;
+  inside = none-first linked_form file name e stands (λ why cause. no_cause (code_of_file file) e (functions_of s) why are cause);
   functions = members_of s;
   are = entries-listed (code_of_file file) e bytes s are group;
   reached = is.reached ∙ sizes-listed (code_of_file file) e bytes s are group;

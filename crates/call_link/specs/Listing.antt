@@ -8,9 +8,9 @@ use Rattle.claims.specs.Turns.{InFirstMemory, RunsBack}
 use Rattle.flow_graph.specs.Flow.{Next}
 use Rattle.flow_graph.specs.Walks.{Reaches}
 use Rattle.call_graph.specs.Calls.{CallsTo, IsFunction}
+use Rattle.call_graph.specs.Causes.{IsCause}
 use Rattle.path_walk.specs.declared.item.Item.{Item}
 use Rattle.decompiler.specs.Listing.{HasMemory, IsItemBy, ItemForm}
-use Rattle.call_link.specs.Faults.{IsLinkFirst}
 
 -- an address that a function of e reaches
 abbrev pub IsLinkedCode : Bytes → ℕ → ℕ → Type 0
@@ -21,7 +21,7 @@ abbrev pub linked_form : ItemForm
 linked_form = record {
   linked = true;
   Calls = CallsTo;
-  IsFirst = IsLinkFirst;
+  Causes = IsCause;
   Reached = IsLinkedCode;
   HasMemories = HasMemory;
   Uses = λ code e. InFirstMemory;

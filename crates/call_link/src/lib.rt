@@ -6,14 +6,13 @@
 //! text_versions has, judges a text of that version; `steer` is its further rule (`Steer`).
 #![tactic(auto)]
 
-mod fault;
 mod functions;
 mod laws;
 mod text;
 
 pub use call_graph::LinkWhy;
-pub use fault::LinkFault;
-pub use functions::link;
+pub use decompiler::LinkFault;
+pub use functions::{Linked, link};
 pub use further_rules::steer;
 pub use laws::law_of_linked_items;
 pub use text::linked_bytes;

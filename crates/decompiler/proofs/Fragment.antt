@@ -12,15 +12,16 @@ use Rattle.flow_graph.specs.Reach.{IsFault}
 use Rattle.flow_graph.proofs.ExactLemmas.{graph_or_fault}
 use Rattle.flow_graph.proofs.GraphLaws.{one_graph}
 use Rattle.loop_forest.specs.Forest.{ForestOf, IsForestOf, IsForestFault, IsMany, IsNoForest, number_of}
-use Rattle.loop_forest.specs.Cycles.{TwoEntries as HasTwo}
-use Rattle.flow_graph.specs.Flow.{Next}
 use Rattle.loop_forest.proofs.AddressLemmas.{code_in_post_order, shows_code}
 use Rattle.loop_forest.proofs.OneForest.{no_many}
 use Rattle.decompiler.specs.Names.{StandsFor}
 use Rattle.call_graph.specs.declared.fault.LinkWhy.{LinkWhy}
 use Rattle.call_graph.specs.declared.fault.LinkWhy.TheVariants as link
-use Rattle.decompiler.specs.Faults.{IsFaultAlone, IsFirst, Missing, Doubled, InCode, InCycle, InLoop}
-use Rattle.decompiler.specs.inner.Functions.{IsNoFunction, IsNoItem, outside_of}
+use Rattle.decompiler.specs.Faults.{IsCauseAlone, IsFirst, IsOutside, Missing, Doubled, InFunction, InCode, InCycle, InLoop}
+use Rattle.call_graph.specs.declared.fault.CallGraphFault.{CallGraphFault}
+use Rattle.call_graph.specs.declared.fault.CallGraphFault.TheVariants as graph
+use Rattle.decompiler.specs.inner.Functions.{IsNoFunction, IsNoItem, IsRefusedAt, cause_of, outside_of}
+use Rattle.decompiler.specs.Listing.{ItemForm}
 use Rattle.flow_graph.specs.declared.outside.FlowFault.{FlowFault}
 use Rattle.flow_graph.specs.declared.outside.FlowFault.TheVariants as fault
 
@@ -37,48 +38,55 @@ found-or e why v w p q r = cc
 found : (e a : ℕ) (v w : Result ℕ NameFault) → v ≡ Ok e → w ≡ Ok a → v ≡ w → e ≡ a
 found e a v w p q r = cc
 
--- what is no function is a fault of the name
-pub first_at : (file name : List ℕ) (e : ℕ) (why : Outside) → StandsFor file name (Ok e) → IsFault false (code_of_file file) e why ⊎ ((g : GraphOf) × IsGraphOf false (code_of_file file) e g × IsForestFault g why) → IsFirst file name why
-first_at file name e why s (inl f) = InCode s f
-first_at file name e (TwoEntries cycle first second) s (inr f) = InCycle f.0 s f.1 (shows_code false (code_of_file file) e f.0 cycle first second f.1 f.2)
-first_at file name e (ManyExits a) s (inr f) = InLoop f.0 s f.1 f.2
-first_at file name e NoSuch s (inr f) = absurd f.2
-first_at file name e (Ambiguous a b) s (inr f) = absurd f.2
-first_at file name e TooLarge s (inr f) = absurd f.2
-first_at file name e (OutsideCode a) s (inr f) = absurd f.2
-first_at file name e (NotDecoded a w) s (inr f) = absurd f.2
-first_at file name e (Environment a) s (inr f) = absurd f.2
-first_at file name e (Call a) s (inr f) = absurd f.2
-first_at file name e (JumpThrough a) s (inr f) = absurd f.2
-first_at file name e (Misaligned a b) s (inr f) = absurd f.2
+-- what is no function is outside the fragment
+outside-at : (code : Bytes) (e : ℕ) (why : Outside) → IsFault false code e why ⊎ ((g : GraphOf) × IsGraphOf false code e g × IsForestFault g why) → IsOutside code e why
+outside-at code e why (inl f) = InCode f
+outside-at code e (TwoEntries cycle first second) (inr f) = InCycle f.0 f.1 (shows_code false code e f.0 cycle first second f.1 f.2)
+outside-at code e (ManyExits a) (inr f) = InLoop f.0 f.1 f.2
+outside-at code e NoSuch (inr f) = absurd f.2
+outside-at code e (Ambiguous a b) (inr f) = absurd f.2
+outside-at code e TooLarge (inr f) = absurd f.2
+outside-at code e (OutsideCode a) (inr f) = absurd f.2
+outside-at code e (NotDecoded a w) (inr f) = absurd f.2
+outside-at code e (Environment a) (inr f) = absurd f.2
+outside-at code e (Call a) (inr f) = absurd f.2
+outside-at code e (JumpThrough a) (inr f) = absurd f.2
+outside-at code e (Misaligned a b) (inr f) = absurd f.2
 
-pub first_of_name : (file name : List ℕ) (why : NameFault) → StandsFor file name (Err why) → IsFirst file name (outside_of why)
-first_of_name file name name_fault.NoSuch s = Missing s
-first_of_name file name (name_fault.Ambiguous a b) s = Doubled s
+pub refused-alone : (form : ItemForm) (code : Bytes) (e : ℕ) → ((why : Outside) → IsOutside code e why → form.Causes code e (link.Outside why))
+    → (why : FlowFault) → IsNoFunction code e why → IsRefusedAt form code e (cause_of why)
+refused-alone form code e so (fault.Outside why) h = so why (outside-at code e why h)
+refused-alone form code e so fault.NoMemory h = tt
 
--- a function has none
-no-first : (file name : List ℕ) (e : ℕ) (g : GraphOf) (f : ForestOf) → StandsFor file name (Ok e) → IsGraphOf false (code_of_file file) e g → IsForestOf g f → (why : Outside) → IsFirst file name why → ⊥
-no-first file name e g f s graph forest why (Missing t) = found-or e name_fault.NoSuch (Ok e) (Err name_fault.NoSuch) refl refl (stands_once file name (Ok e) (Err name_fault.NoSuch) s t)
-no-first file name e g f s graph forest why (Doubled {a = a} {b = b} t) = found-or e (name_fault.Ambiguous a b) (Ok e) (Err (name_fault.Ambiguous a b)) refl refl (stands_once file name (Ok e) (Err (name_fault.Ambiguous a b)) s t)
-no-first file name e g f s graph forest why (InCode {e = d} t fault) =
+-- .. and a function is inside
+pub alone-inside : (code : Bytes) (e : ℕ) (g : GraphOf) (f : ForestOf) → IsGraphOf false code e g → IsForestOf g f → (why : LinkWhy) → IsCauseAlone code e why → ⊥
+alone-inside code e g f graph forest (link.Recursive a) h = h
+alone-inside code e g f graph forest (link.Outside why) h = outside why h
+  where
+    outside : (why : Outside) → IsOutside code e why → ⊥
+    outside why (InCode fault) = graph_or_fault false code e g why graph fault
+    outside _ (InCycle {cycle = c} {first = x} {second = y} h other shows) =
+        code_in_post_order false code e g (number_of f) graph forest.in_post_order (record { cycle = c; first = x; second = y; shows = shows })
+    outside _ (InLoop {a = a} h other many) =
+        no_many g f a forest (subst (λ (z : GraphOf). IsMany z a) (one_graph false code e h g other graph) many)
+
+-- what has no function is a fault of the name
+pub none-at : (form : ItemForm) (file name : List ℕ) (e : ℕ) → StandsFor file name (Ok e) → (why : CallGraphFault) → IsRefusedAt form (code_of_file file) e why → IsNoItem form file name why
+none-at form file name e s (graph.Refused why) h = InFunction s h
+none-at form file name e s graph.NoMemory h = tt
+
+pub none-named : (form : ItemForm) (file name : List ℕ) (why : NameFault) → StandsFor file name (Err why) → IsFirst form.Causes file name (link.Outside (outside_of why))
+none-named form file name name_fault.NoSuch s = Missing s
+none-named form file name (name_fault.Ambiguous a b) s = Doubled s
+
+-- .. and a name with a function has none
+pub none-first : (form : ItemForm) (file name : List ℕ) (e : ℕ) → StandsFor file name (Ok e) → ((why : LinkWhy) → form.Causes (code_of_file file) e why → ⊥)
+    → (why : LinkWhy) → IsFirst form.Causes file name why → ⊥
+none-first form file name e s inside _ (Missing t) = found-or e name_fault.NoSuch (Ok e) (Err name_fault.NoSuch) refl refl (stands_once file name (Ok e) (Err name_fault.NoSuch) s t)
+none-first form file name e s inside _ (Doubled {a = a} {b = b} t) = found-or e (name_fault.Ambiguous a b) (Ok e) (Err (name_fault.Ambiguous a b)) refl refl (stands_once file name (Ok e) (Err (name_fault.Ambiguous a b)) s t)
+none-first form file name e s inside why (InFunction {e = d} t cause) =
     let same : d ≡ e = found d e (Ok d) (Ok e) refl refl (stands_once file name (Ok d) (Ok e) t s) in
-    graph_or_fault false (code_of_file file) e g why graph (subst (λ (x : ℕ). IsFault false (code_of_file file) x why) same fault)
-no-first file name e g f s graph forest why (InCycle {e = d} {cycle = c} {first = x} {second = y} h t other shows) =
-    let same : d ≡ e = found d e (Ok d) (Ok e) refl refl (stands_once file name (Ok d) (Ok e) t s) in
-    code_in_post_order false (code_of_file file) e g (number_of f) graph forest.in_post_order
-    (subst (λ (z : ℕ). HasTwo (Next false (code_of_file file)) z) same (record { cycle = c; first = x; second = y; shows = shows }))
-no-first file name e g f s graph forest why (InLoop {e = d} {a = a} h t other many) =
-    let same : d ≡ e = found d e (Ok d) (Ok e) refl refl (stands_once file name (Ok d) (Ok e) t s) in
-    let one : h ≡ g = one_graph false (code_of_file file) e h g (subst (λ (z : ℕ). IsGraphOf false (code_of_file file) z h) same other) graph in
-    no_many g f a forest (subst (λ (z : GraphOf). IsMany z a) one many)
-
-pub in_fragment : (file name : List ℕ) (e : ℕ) (g : GraphOf) (f : ForestOf) → StandsFor file name (Ok e) → IsGraphOf false (code_of_file file) e g → IsForestOf g f → (why : LinkWhy) → IsFaultAlone file name why → ⊥
-in_fragment file name e g f s graph forest (link.Outside why) h = no-first file name e g f s graph forest why h
-in_fragment file name e g f s graph forest (link.Recursive a) h = h
-
-pub none_at : (file name : List ℕ) (e : ℕ) (why : FlowFault) → StandsFor file name (Ok e) → IsNoFunction (code_of_file file) e why → IsNoItem file name why
-none_at file name e (fault.Outside why) s h = first_at file name e why s h
-none_at file name e fault.NoMemory s h = tt
+    inside why (subst (λ (x : ℕ). form.Causes (code_of_file file) x why) same cause)
 
 -- what isn't built is no function
 pub no_graph : (code : Bytes) (e : ℕ) (why : FlowFault) → IsRefused false code e why → IsNoFunction code e why

@@ -1,19 +1,22 @@
 -- Items for names in order, one after the other.
-use Rattle.std.proofs.Common.{◌≡◌, ℕ, zero, suc, ◌+◌, ◌<◌, List, [], ◌∷◌, ◌++◌, length, get_or, take, sym, ap, subst, ◌∙◌, arith, Some}
+use Rattle.std.proofs.Common.{◌≡◌, ℕ, zero, suc, ◌+◌, ◌<◌, List, [], ◌∷◌, ◌++◌, length, get_or, take, sym, refl, ap, subst, ◌∙◌, arith, Some}
 use Rattle.std.proofs.lemmas.List.{take_more}
 use Rattle.std.proofs.lemmas.Option.{slice_get-get_or}
 use Rattle.std.specs.Prelude.{slice_get}
 use Rattle.std.specs.List.{AllZip}
 use Rattle.path_walk.specs.declared.item.Item.{Item}
-use Rattle.flow_graph.specs.declared.outside.FlowFault.{FlowFault}
-use Rattle.flow_graph.specs.declared.outside.FlowFault.TheVariants as fault
-use Rattle.flow_graph.specs.declared.outside.Outside.{Outside}
+use Rattle.call_graph.specs.declared.fault.CallGraphFault.{CallGraphFault}
+use Rattle.call_graph.specs.declared.fault.CallGraphFault.TheVariants as graph
+use Rattle.decompiler.specs.declared.fault.LinkFault.{LinkFault}
+use Rattle.decompiler.specs.declared.fault.LinkFault.TheVariants as fault
 use Rattle.call_graph.specs.declared.fault.LinkWhy.{LinkWhy}
 use Rattle.call_graph.specs.declared.fault.LinkWhy.TheVariants as link
-use Rattle.decompiler.specs.Faults.{IsFirst}
+use Rattle.rv_words.specs.Bytes.{Bytes}
+use Rattle.elf_image.specs.Image.{code_of_file}
+use Rattle.decompiler.specs.Faults.{IsFirst, Missing, Doubled, InFunction}
 use Rattle.decompiler.specs.Listing.{IsItemBy, IsRefusedBy, ItemForm}
-use Rattle.decompiler.specs.Refusals.{IsFaultBy}
-use Rattle.decompiler.specs.inner.Functions.{IsNoItem, refusal}
+use Rattle.decompiler.specs.Refusals.{IsFaultBy, IsNoProofBy}
+use Rattle.decompiler.specs.inner.Functions.{IsNoItem, fault_alone, refusal}
 
 zip_join : {A B : Type 0} (R : A → B → Type 0) (xs : List A) (ys : List B) (x : A) (y : B) → AllZip R xs ys → R x y → AllZip R (xs ++ x ∷ []) (ys ++ y ∷ [])
 zip_join R [] [] x y h r = (r, tt)
@@ -47,7 +50,7 @@ module _ (form : ItemForm) (file : List ℕ) (names : List (List ℕ)) (i : ℕ)
       (zip_more (IsItemBy form file) names i name items item at.0 before (subst (λ (n : List ℕ). IsItemBy form file n item) at.1 is))
 
   -- the first name with a fault
-  pub first-fault : (why : LinkWhy) → form.IsFirst file name why → IsRefusedBy form file names i why
+  pub first-fault : (why : LinkWhy) → IsFirst form.Causes file name why → IsRefusedBy form file names i why
   first-fault why first = record {
     name = name;
     at = slice_get-get_or names i name at.0 ∙ ap Some (sym at.1);
@@ -55,7 +58,18 @@ module _ (form : ItemForm) (file : List ℕ) (names : List (List ℕ)) (i : ℕ)
     before = λ k other low e. zip_there (IsItemBy form file) names i items k other before low e;
   }
 
-  -- .. where functions have the faults of one alone
-  pub none-listed : ((why : Outside) → IsFirst file name why → form.IsFirst file name (link.Outside why)) → (why : FlowFault) → IsNoItem file name why → IsFaultBy form file names (refusal i why)
-  none-listed so (fault.Outside why) none = first-fault (link.Outside why) (so why none)
-  none-listed so fault.NoMemory none = tt
+  pub none-listed : (why : CallGraphFault) → IsNoItem form file name why → IsNoProofBy form file names (refusal i why)
+  none-listed (graph.Refused why) none = first-fault why none
+  none-listed graph.NoMemory none = tt
+
+-- functions each alone have faults of their own alone
+pub none-alone : (form : ItemForm) (file : List ℕ) (names : List (List ℕ)) → ((code : Bytes) (e a : ℕ) → form.Causes code e (link.Recursive a) → ⊥)
+    → (why : LinkFault) → IsNoProofBy form file names why → IsFaultBy form file names (fault_alone why)
+none-alone form file names never (fault.Refused number (link.Outside why)) h = h
+none-alone form file names never (fault.Refused number (link.Recursive a)) h = absurd (none-recursive h.name (link.Recursive a) h.first refl)
+  where
+    none-recursive : (name : List ℕ) (w : LinkWhy) → IsFirst form.Causes file name w → w ≡ link.Recursive a → ⊥
+    none-recursive name _ (Missing s) e = cc
+    none-recursive name _ (Doubled s) e = cc
+    none-recursive name w (InFunction {e = entry} s cause) e = never (code_of_file file) entry a (subst (λ (x : LinkWhy). form.Causes (code_of_file file) entry x) e cause)
+none-alone form file names never fault.NoMemory h = tt

@@ -37,7 +37,7 @@ use Rattle.decompiler.specs.Names.{StandsFor}
 use Rattle.decompiler.specs.Listing.{AreDefsOf, IsItemFor, Lists, alone_form}
 use Rattle.decompiler.proofs.CodeListed.{bytes_are, memory_is, ranges_small, registers_are}
 use Rattle.decompiler.proofs.Definitions.{defs-of-one, defs_alone, entry-alone}
-use Rattle.decompiler.proofs.Fragment.{in_fragment}
+use Rattle.decompiler.proofs.Fragment.{alone-inside, none-first}
 use Rattle.decompiler.proofs.PartsListed.{defs_are}
 
 module _ (file name : List ℕ) (e : ℕ) (g : GraphOf) (f : ForestOf) (bytes : AreBytes (code_of_file file)) (graph : IsGraphOf false (code_of_file file) e g) (forest : IsForestOf g f)
@@ -98,7 +98,7 @@ pub item_is : (file name : List ℕ) (e : ℕ) (g : GraphOf) (f : ForestOf) (ite
 item_is file name e g f item stands named bytes graph forest is = record {
   entry = e;
   stands = stands;
-  inside = in_fragment file name e g f stands graph forest;
+  inside = none-first alone_form file name e stands (alone-inside (code_of_file file) e g f graph forest);
   functions = the_functions file name e g f bytes graph forest is.parts is.ordered item.group.code.ranges is.code;
   are = entry-alone e;
   reached = is.reached ∙ sym (zero-add (length g.addrs));

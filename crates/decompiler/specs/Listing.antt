@@ -34,7 +34,7 @@ use Rattle.code_parts.specs.Graph.{IsPart}
 use Rattle.code_parts.specs.Members.{AreBased, Member, callee_at, defs_of, flow_at}
 use Rattle.path_walk.specs.declared.item.Item.{Item}
 use Rattle.decompiler.specs.Names.{StandsFor}
-use Rattle.decompiler.specs.Faults.{IsFaultAlone}
+use Rattle.decompiler.specs.Faults.{IsCauseAlone, IsFirst}
 use Rattle.path_walk.specs.declared.proof.Proof.{Proof}
 
 -- an item as a group with the lines of its proof
@@ -160,8 +160,8 @@ pub record ItemForm : Type 1 where
   -- whether a function goes on behind its calls, and which function, by its entry, calls which
   pub linked : Bool
   pub Calls : Bytes → ℕ → ℕ → Type 0
-  -- the first fault of a name of a file
-  pub IsFirst : List ℕ → List ℕ → LinkWhy → Type 0
+  -- the first reason for which the function entered at e is refused
+  pub Causes : Bytes → ℕ → LinkWhy → Type 0
   -- the code of the function entered at e: the addresses that are reached
   pub Reached : Bytes → ℕ → ℕ → Type 0
   -- how many memories there are, where this says whether an instruction loads or stores; and which of them the instruction at an address has
@@ -190,7 +190,7 @@ pub record Lists (form : ItemForm) (code : Bytes) (e : ℕ) (ms : List Member) (
 pub record IsItemBy (form : ItemForm) (file name : List ℕ) (item : Item) : Type 0 where
   pub entry : ℕ
   pub stands : StandsFor file name (Ok entry)
-  pub inside : (why : LinkWhy) → form.IsFirst file name why → ⊥
+  pub inside : (why : LinkWhy) → IsFirst form.Causes file name why → ⊥
   pub functions : List Member
   pub are : AreEntries (form.Calls (code_of_file file)) entry (map (λ m. m.at) functions)
   pub reached : item.reached ≡ sum_by (λ m. length m.graph.addrs) functions
@@ -209,7 +209,7 @@ AreItemsBy form file names p = AllZip (IsItemBy form file) names p.items
 pub record IsRefusedBy (form : ItemForm) (file : List ℕ) (names : List (List ℕ)) (number : ℕ) (why : LinkWhy) : Type 0 where
   pub name : List ℕ
   pub at : slice_get names number ≡ Some name
-  pub first : form.IsFirst file name why
+  pub first : IsFirst form.Causes file name why
   pub before : (k : ℕ) (other : List ℕ) → k < number → slice_get names k ≡ Some other → (item : Item) × IsItemBy form file other item
 
 -- ---- alone
@@ -223,7 +223,7 @@ abbrev pub alone_form : ItemForm
 alone_form = record {
   linked = false;
   Calls = λ code a b. ⊥;
-  IsFirst = IsFaultAlone;
+  Causes = IsCauseAlone;
   Reached = λ code e. Reaches (Next false code) e;
   HasMemories = HasMemory;
   Uses = λ code e. InFirstMemory;

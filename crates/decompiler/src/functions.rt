@@ -1,4 +1,4 @@
-//! Decompiling the functions of a file.
+//! Decompiling the functions of a file, each alone.
 
 ghost use Rattle.std.specs.Prelude.{◌≡◌, ℕ, List as Items, All, Ok as Fine, IfOk, IfErr};
 ghost use Rattle.elf_image.specs.Image.{code_in, image_of};
@@ -6,16 +6,39 @@ ghost use Rattle.group_text.specs.Limits.{IsName};
 ghost use Rattle.decompiler.specs.Listing.{AreItemsBy, IsItemFor, alone_form};
 ghost use Rattle.decompiler.specs.Refusals.{IsFaultBy};
 ghost use Rattle.decompiler.specs.Names.{StandsFor};
-ghost use Rattle.decompiler.specs.inner.Functions.{IsNoFunction, IsNoItem, outside_of, refusal};
+ghost use Rattle.decompiler.specs.inner.Functions.{IsNoFunction, cause_of, fault_alone};
 
 use crate::bytes::law_of_bytes;
-use crate::name::address_of;
-use elf_image::{Image, NameFault, law_of_image};
+use crate::fault::LinkFault;
+use crate::making::{MakeItems, items_of};
+use call_graph::{CallGraphFault, LinkWhy};
+use elf_image::{Image, law_of_image};
 use flow_graph::{FlowFault, Outside, build};
 use loop_forest::find_loops;
 use path_walk::{DecompileFault, Item, Proof, item_of};
-use rv_words::{List, NoMemory, Text};
+use rv_words::{List, Text};
 use std::alloc::Global;
+
+/// The form of functions that call none.
+#[derive(Clone, Copy, Debug, Drop)]
+pub struct Alone;
+
+impl MakeItems for Alone {
+    ghost form = { alone_form };
+
+    fn function_at(
+        &self,
+        alloc: Global,
+        image: &Image,
+        entry: u64,
+        name: Text,
+    ) -> Result<Item, CallGraphFault> {
+        match alone_at(alloc, image, entry, name) {
+            Ok(item) => Ok(item),
+            Err(why) => Err(cause_of(why)),
+        }
+    }
+}
 
 /// An item for each of these names of a file, or the first of the names that is outside the
 /// fragment.
@@ -28,61 +51,40 @@ pub fn decompile(alloc: Global, image: &Image, names: &List<Text>) -> Result<Pro
         → image.now ≡ image_of file
         → IfErr result (IsFaultBy alone_form file names.now) }
 {
-    let all = names.as_slice();
-    let mut items = List::new(alloc);
-    let mut i = 0;
-    'names: while i < all.len() {
-        match item_for(alloc, image, &all[i]) {
-            Ok(item) => items.push(item)?,
-            Err(why) => return Err(refusal(i as u64, why)),
-        }
-        i += 1;
+    match items_of(alloc, image, names, &Alone) {
+        Ok(proof) => Ok(proof),
+        Err(fault) => Err(fault_alone(fault)),
     }
-    Ok(Proof { items })
 }
 
-/// Why there is no proof, where this is why there is no item of the name of that number.
-pub fn refusal(number: u64, why: FlowFault) -> DecompileFault
-    ensures { result ≡ refusal number why }
+/// Why there is no item, as one of the reasons for linked functions.
+pub fn cause_of(why: FlowFault) -> CallGraphFault
+    ensures { result ≡ cause_of why }
 {
     match why {
-        FlowFault::Outside(why) => DecompileFault::Refused { name: number, why },
-        FlowFault::NoMemory => DecompileFault::NoMemory,
+        FlowFault::Outside(why) => CallGraphFault::Refused(LinkWhy::Outside(why)),
+        FlowFault::NoMemory => CallGraphFault::NoMemory,
     }
 }
 
-/// The item of a name.
-fn item_for(alloc: Global, image: &Image, name: &Text) -> Result<Item, FlowFault>
-    requires { IsName name.now }
-    ensures item { (file : Items ℕ)
-        → image.now ≡ image_of file
-        → IfOk result (IsItemFor file name.now) }
-    ensures none { (file : Items ℕ)
-        → image.now ≡ image_of file
-        → IfErr result (IsNoItem file name.now) }
+/// Why there is no proof of functions each alone, of which none calls itself.
+pub fn fault_alone(fault: LinkFault) -> DecompileFault
+    ensures { result ≡ fault_alone fault }
 {
-    law_of_image(image);
-    match address_of(image, name.as_slice()) {
-        Ok(entry) => {
-            let name = List::from_slice(alloc, name.as_slice())?;
-            function_at(alloc, image, entry, name)
-        }
-        Err(why) => Err(FlowFault::Outside(outside_of(why))),
-    }
-}
-
-/// The fault of a name that has no address.
-pub fn outside_of(why: NameFault) -> Outside
-    ensures { result ≡ outside_of why }
-{
-    match why {
-        NameFault::NoSuch => Outside::NoSuch,
-        NameFault::Ambiguous(a, b) => Outside::Ambiguous(a, b),
+    match fault {
+        LinkFault::Refused { name, why } => match why {
+            LinkWhy::Outside(why) => DecompileFault::Refused { name, why },
+            LinkWhy::Recursive(entry) => {
+                let why = Outside::Call(entry);
+                DecompileFault::Refused { name, why }
+            }
+        },
+        LinkFault::NoMemory => DecompileFault::NoMemory,
     }
 }
 
 /// The item of the function at an address, under that name.
-fn function_at(alloc: Global, image: &Image, entry: u64, name: Text) -> Result<Item, FlowFault>
+fn alone_at(alloc: Global, image: &Image, entry: u64, name: Text) -> Result<Item, FlowFault>
     requires { IsName name }
     ensures item { (file : Items ℕ)
         → image.now ≡ image_of file

@@ -2,14 +2,18 @@
 #![tactic(auto)]
 
 mod bytes;
+mod fault;
 mod functions;
 mod laws;
+mod making;
 mod name;
 mod text;
 
 pub use bytes::law_of_bytes;
-pub use functions::{decompile, outside_of, refusal};
+pub use fault::LinkFault;
+pub use functions::{Alone, cause_of, decompile, fault_alone};
 pub use laws::law_of_items;
+pub use making::{MakeItems, items_of};
 pub use name::address_of;
 pub use path_walk::{DecompileFault, Item, Proof};
 pub use text::{bytes_in, entry_of, proof_bytes};

@@ -29,14 +29,12 @@ use Rattle.loop_forest.proofs.OneForest.{one_head}
 use Rattle.path_walk.specs.declared.item.Item.{Item}
 use Rattle.code_parts.proofs.Lists.{here, later}
 use Rattle.decompiler.specs.Names.{StandsFor}
-use Rattle.decompiler.specs.Faults.{IsFaultAlone, IsFirst, Missing, Doubled, InCode, InCycle, InLoop}
+use Rattle.decompiler.specs.Faults.{IsCauseAlone, IsFirst, IsOutside, Missing, Doubled, InFunction, InCode, InCycle, InLoop}
 use Rattle.decompiler.specs.Listing.{HasDefs, HaveDefs, IsDefOf, IsItemBy}
-use Rattle.call_graph.specs.Causes.{HasOneForm, IsCause}
+use Rattle.call_graph.specs.Causes.{HasOneForm}
 use Rattle.call_graph.specs.declared.fault.LinkWhy.{LinkWhy}
 use Rattle.call_graph.specs.declared.fault.LinkWhy.TheVariants as link
 use Rattle.call_graph.proofs.OneCause.{one_cause}
-use Rattle.call_link.specs.Faults.{IsLinkFirst}
-use Rattle.call_link.specs.Faults as link_first
 use Rattle.mcdec_answers.specs.declared.answer.DecompileAnswer.TheVariants as de
 use Rattle.mcdec_words.specs.declared.command.Form.{Form}
 use Rattle.mcdec_words.specs.declared.command.Form.TheVariants.{Alone, Linked, Split}
@@ -155,17 +153,10 @@ CycleCase code e why = (g : GraphOf) × IsGraphOf false code e g × TwoEntries (
 abbrev CodeCase : Bytes → ℕ → Outside → Type 0
 CodeCase code e why = IsFault false code e why ⊎ (ManyCase code e why ⊎ CycleCase code e why)
 
--- a fault of the name itself, or of the code at its address
-abbrev FirstCase : List ℕ → List ℕ → Outside → Type 0
-FirstCase file name why = ((f : NameFault) × StandsFor file name (Err f) × (why ≡ of_name f)) ⊎ ((e : ℕ) × StandsFor file name (Ok e) × CodeCase (code_of_file file) e why)
-
-first-case : (file name : List ℕ) (why : Outside) → IsFirst file name why → FirstCase file name why
-first-case file name _ (Missing h) = inl (name_fault.NoSuch, h, refl)
-first-case file name _ (Doubled {a = a} {b = b} h) = inl (name_fault.Ambiguous a b, h, refl)
-first-case file name why (InCode {e = e} h f) = inr (e, h, inl f)
-first-case file name _ (InCycle {e = e} {cycle = c} {first = p} {second = q} g h is shows) =
-    inr (e, h, inr (inr (g, is, record { cycle = c; first = p; second = q; shows = shows }, λ u. u)))
-first-case file name _ (InLoop {e = e} {a = a} g h is many) = inr (e, h, inr (inl (g, is, a, many, refl)))
+code-case : (code : Bytes) (e : ℕ) (why : Outside) → IsOutside code e why → CodeCase code e why
+code-case code e why (InCode f) = inl f
+code-case code e _ (InCycle {cycle = c} {first = p} {second = q} g is shows) = inr (inr (g, is, record { cycle = c; first = p; second = q; shows = shows }, λ u. u))
+code-case code e _ (InLoop {a = a} g is many) = inr (inl (g, is, a, many, refl))
 
 code-once : (code : Bytes) (e : ℕ) (why other : Outside) → HasOneForm (link.Outside other) → CodeCase code e why → CodeCase code e other → why ≡ other
 code-once code e why other u h (inr (inr k)) = absurd (k.3 u)
@@ -178,45 +169,39 @@ code-once code e why other u (inr (inl h)) (inr (inl k)) =
     h.4 ∙ ap outside.ManyExits (one_head k.0 h.2 k.2 (subst (λ (x : GraphOf). IsMany x h.2) gs h.3) k.3) ∙ sym k.4
 code-once code e why other u (inr (inr h)) (inr (inl k)) = absurd (k.3.one_entry (two_entries_back false code e k.0 k.1 h.2))
 
-cases-once : (file name : List ℕ) (why other : Outside) → HasOneForm (link.Outside other) → FirstCase file name why → FirstCase file name other → why ≡ other
-cases-once file name why other u (inl h) (inl k) = h.2 ∙ ap of_name (err_is h.0 k.0 (stands-once file name (Err h.0) (Err k.0) h.1 k.1)) ∙ sym k.2
-cases-once file name why other u (inl h) (inr k) = absurd (ok_err k.0 h.0 (stands-once file name (Ok k.0) (Err h.0) k.1 h.1))
-cases-once file name why other u (inr h) (inl k) = absurd (ok_err h.0 k.0 (stands-once file name (Ok h.0) (Err k.0) h.1 k.1))
-cases-once file name why other u (inr h) (inr k) =
-    let e : h.0 ≡ k.0 = same-value file name h.0 k.0 h.1 k.1 in
-    code-once (code_of_file file) k.0 why other u (subst (λ a. CodeCase (code_of_file file) a why) e h.2) k.2
-
--- a fault that is shown in one way is the only one
-first-once : (file name : List ℕ) (why other : Outside) → HasOneForm (link.Outside other) → IsFirst file name why → IsFirst file name other → why ≡ other
-first-once file name why other u h k = cases-once file name why other u (first-case file name why h) (first-case file name other k)
+alone-once : (code : Bytes) (e : ℕ) (why other : LinkWhy) → HasOneForm other → IsCauseAlone code e why → IsCauseAlone code e other → why ≡ other
+alone-once code e (link.Outside why) (link.Outside other) u h k = ap link.Outside (code-once code e why other u (code-case code e why h) (code-case code e other k))
+alone-once code e (link.Outside why) (link.Recursive b) u h k = absurd k
+alone-once code e (link.Recursive a) other u h k = absurd h
 
 -- ---- functions by themselves, with those that they call, or with a memory for the stack
 
-abbrev LinkCase : List ℕ → List ℕ → LinkWhy → Type 0
-LinkCase file name why = ((f : NameFault) × StandsFor file name (Err f) × (why ≡ link.Outside (of_name f))) ⊎ ((e : ℕ) × StandsFor file name (Ok e) × IsCause (code_of_file file) e why)
+cause-once : (form : Form) (code : Bytes) (e : ℕ) (why other : LinkWhy) → HasOneForm other → (item_form form).Causes code e why → (item_form form).Causes code e other → why ≡ other
+cause-once Alone code e why other u h k = alone-once code e why other u h k
+cause-once Linked code e why other u h k = one_cause code e why other u h k
+cause-once Split code e why other u h k = alone-once code e why other u h k
 
-link-case : (file name : List ℕ) (why : LinkWhy) → IsLinkFirst file name why → LinkCase file name why
-link-case file name _ (link_first.Missing h) = inl (name_fault.NoSuch, h, refl)
-link-case file name _ (link_first.Doubled {a = a} {b = b} h) = inl (name_fault.Ambiguous a b, h, refl)
-link-case file name why (link_first.InFunctions {e = e} h cause) = inr (e, h, cause)
+-- a fault of the name itself, or of the code at its address
+abbrev FirstCase : Form → List ℕ → List ℕ → LinkWhy → Type 0
+FirstCase form file name why =
+    ((f : NameFault) × StandsFor file name (Err f) × (why ≡ link.Outside (of_name f))) ⊎ ((e : ℕ) × StandsFor file name (Ok e) × (item_form form).Causes (code_of_file file) e why)
 
-links-once : (file name : List ℕ) (why other : LinkWhy) → HasOneForm other → LinkCase file name why → LinkCase file name other → why ≡ other
-links-once file name why other u (inl h) (inl k) = h.2 ∙ ap (λ f. link.Outside (of_name f)) (err_is h.0 k.0 (stands-once file name (Err h.0) (Err k.0) h.1 k.1)) ∙ sym k.2
-links-once file name why other u (inl h) (inr k) = absurd (ok_err k.0 h.0 (stands-once file name (Ok k.0) (Err h.0) k.1 h.1))
-links-once file name why other u (inr h) (inl k) = absurd (ok_err h.0 k.0 (stands-once file name (Ok h.0) (Err k.0) h.1 k.1))
-links-once file name why other u (inr h) (inr k) =
+first-case : (form : Form) (file name : List ℕ) (why : LinkWhy) → IsFirst (item_form form).Causes file name why → FirstCase form file name why
+first-case form file name _ (Missing h) = inl (name_fault.NoSuch, h, refl)
+first-case form file name _ (Doubled {a = a} {b = b} h) = inl (name_fault.Ambiguous a b, h, refl)
+first-case form file name why (InFunction {e = e} h cause) = inr (e, h, cause)
+
+cases-once : (form : Form) (file name : List ℕ) (why other : LinkWhy) → HasOneForm other → FirstCase form file name why → FirstCase form file name other → why ≡ other
+cases-once form file name why other u (inl h) (inl k) = h.2 ∙ ap (λ f. link.Outside (of_name f)) (err_is h.0 k.0 (stands-once file name (Err h.0) (Err k.0) h.1 k.1)) ∙ sym k.2
+cases-once form file name why other u (inl h) (inr k) = absurd (ok_err k.0 h.0 (stands-once file name (Ok k.0) (Err h.0) k.1 h.1))
+cases-once form file name why other u (inr h) (inl k) = absurd (ok_err h.0 k.0 (stands-once file name (Ok h.0) (Err k.0) h.1 k.1))
+cases-once form file name why other u (inr h) (inr k) =
     let e : h.0 ≡ k.0 = same-value file name h.0 k.0 h.1 k.1 in
-    one_cause (code_of_file file) k.0 why other u (subst (λ a. IsCause (code_of_file file) a why) e h.2) k.2
+    cause-once form (code_of_file file) k.0 why other u (subst (λ a. (item_form form).Causes (code_of_file file) a why) e h.2) k.2
 
-alone-once : (file name : List ℕ) (why other : LinkWhy) → HasOneForm other → IsFaultAlone file name why → IsFaultAlone file name other → why ≡ other
-alone-once file name (link.Outside why) (link.Outside other) u h k = ap link.Outside (first-once file name why other u h k)
-alone-once file name (link.Outside why) (link.Recursive b) u h k = absurd k
-alone-once file name (link.Recursive a) other u h k = absurd h
-
-fault-once : (form : Form) (file name : List ℕ) (why other : LinkWhy) → HasOneForm other → (item_form form).IsFirst file name why → (item_form form).IsFirst file name other → why ≡ other
-fault-once Alone file name why other u h k = alone-once file name why other u h k
-fault-once Linked file name why other u h k = links-once file name why other u (link-case file name why h) (link-case file name other k)
-fault-once Split file name why other u h k = alone-once file name why other u h k
+-- a fault that is shown in one way is the only one
+fault-once : (form : Form) (file name : List ℕ) (why other : LinkWhy) → HasOneForm other → IsFirst (item_form form).Causes file name why → IsFirst (item_form form).Causes file name other → why ≡ other
+fault-once form file name why other u h k = cases-once form file name why other u (first-case form file name why h) (first-case form file name other k)
 
 -- two refusals that differ at most in the walks that show two entries
 abbrev pub Alike : List ℕ → LinkWhy → LinkWhy → Type 0
@@ -237,7 +222,7 @@ forms name (link.Outside (outside.TwoEntries cycle first second)) = inr refl
 forms name (link.Outside (outside.ManyExits a)) = inl tt
 forms name (link.Recursive a) = inl tt
 
-faults-alike : (form : Form) (file name told : List ℕ) (why other : LinkWhy) → (item_form form).IsFirst file name why → (item_form form).IsFirst file name other → Alike told why other
+faults-alike : (form : Form) (file name told : List ℕ) (why other : LinkWhy) → IsFirst (item_form form).Causes file name why → IsFirst (item_form form).Causes file name other → Alike told why other
 faults-alike form file name told why other h k = of-forms (forms told why) (forms told other)
   where
     of-forms : HasOneForm why ⊎ (without_walks (de.Refused told why) ≡ de.Refused told (link.Outside (outside.TwoEntries [] [] [])))
@@ -246,7 +231,7 @@ faults-alike form file name told why other h k = of-forms (forms told why) (form
     of-forms (inl u) (inr e) = sym (ap (λ (w : LinkWhy). without_walks (de.Refused told w)) (fault-once form file name other why u k h))
     of-forms (inr e) (inr d) = e ∙ sym d
 
-item-inside : (form : Form) (file name : List ℕ) (i : Item) → IsItemBy (item_form form) file name i → (why : LinkWhy) → (item_form form).IsFirst file name why → ⊥
+item-inside : (form : Form) (file name : List ℕ) (i : Item) → IsItemBy (item_form form) file name i → (why : LinkWhy) → IsFirst (item_form form).Causes file name why → ⊥
 item-inside form file name i h why f = h.inside why f
 
 -- definitions of functions, as many as each has behind its entry
@@ -331,4 +316,4 @@ module _ (form : Form) (file : List ℕ) (names : List (List ℕ)) where
       let number : n ≡ m = omega (arith, not-before n m why other r s, not-before m n other why s r) in
       let some : Some r.name ≡ Some s.name = sym r.at ∙ ap (λ k. slice_get names k) number ∙ s.at in
       let name : r.name ≡ s.name = cc in
-      (number, λ n. faults-alike form file s.name n why other (subst (λ x. (item_form form).IsFirst file x why) name r.first) s.first)
+      (number, λ n. faults-alike form file s.name n why other (subst (λ x. IsFirst (item_form form).Causes file x why) name r.first) s.first)

@@ -12,21 +12,21 @@ ghost use Rattle.mcdec_commands.specs.DecompileAnswer.{AreItemsIn, IsRefusedIn, 
 ghost use Rattle.mcdec_answers.specs.Printed.{status};
 ghost use Rattle.mcdec_commands.specs.RunAnswer.{IsLoaded};
 ghost use Rattle.mcdec_words.specs.CommandReading.{IsReadDecompile};
-ghost use Rattle.mcdec_commands.specs.inner.Decompiling.{FileGives, HasDef, IsNoProofIn, link_fault};
+ghost use Rattle.mcdec_commands.specs.inner.Decompiling.{FileGives, HasDef, IsNoProofIn};
 ghost use Rattle.mcdec_commands.specs.inner.Loading.{not_loaded};
 ghost use Rattle.mcdec_commands.specs.inner.Writing.{IsTold, WritesOut};
 ghost use Rattle.mcdec_commands.specs.inner.Shelves.{ReadsThenWrites, WritesFile};
 
 use crate::load::{LoadFault, load_image, not_read};
 use crate::output::write_answer;
-use call_link::{LinkFault, LinkWhy, law_of_linked_items, link, linked_bytes};
-use decompiler::{DecompileFault, Item, Proof, decompile, entry_of, law_of_items, proof_bytes};
+use call_link::{LinkWhy, Linked, law_of_linked_items, linked_bytes};
+use decompiler::{Alone, Item, LinkFault, Proof, entry_of, items_of, law_of_items, proof_bytes};
 use elf_image::Image;
 use mc_shelf::Shelf;
 use mcdec_answers::{Answer, DecompileAnswer, Listed};
 use mcdec_words::{Decompile, Form};
 use rv_words::{Bytes, List, NoMemory, Text};
-use stack_split::{law_of_split_items, split, split_bytes};
+use stack_split::{WithStack, law_of_split_items, split_bytes};
 use std::alloc::Global;
 
 /// The answer to `decompile`, `link` or `split`.
@@ -114,28 +114,9 @@ fn proof_of_names(alloc: Global, image: &Image, d: &Decompile<'_>) -> Result<Pro
     law_of_linked_items();
     law_of_split_items();
     match d.form {
-        Form::Alone => match decompile(alloc, image, &d.names) {
-            Ok(proof) => Ok(proof),
-            Err(fault) => Err(link_fault(fault)),
-        },
-        Form::Linked => link(alloc, image, &d.names),
-        Form::Split => match split(alloc, image, &d.names) {
-            Ok(proof) => Ok(proof),
-            Err(fault) => Err(link_fault(fault)),
-        },
-    }
-}
-
-/// Why there is no proof of functions by themselves, as one of the reasons for linked functions.
-fn link_fault(fault: DecompileFault) -> LinkFault
-    ensures { result ≡ link_fault fault }
-{
-    match fault {
-        DecompileFault::Refused { name, why } => LinkFault::Refused {
-            name,
-            why: LinkWhy::Outside(why),
-        },
-        DecompileFault::NoMemory => LinkFault::NoMemory,
+        Form::Alone => items_of(alloc, image, &d.names, &Alone),
+        Form::Linked => items_of(alloc, image, &d.names, &Linked),
+        Form::Split => items_of(alloc, image, &d.names, &WithStack),
     }
 }
 

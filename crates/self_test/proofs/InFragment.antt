@@ -1,5 +1,5 @@
 -- A program's function has an address, and is in the fragment.
-use Rattle.std.proofs.Common.{◌≡◌, ℕ, zero, suc, ◌≤◌, inl, inr, List, [], ◌∷◌, Some, Result, Ok, Err, refl, sym, subst, ◌∙◌, arith, false}
+use Rattle.std.proofs.Common.{◌≡◌, ℕ, zero, suc, ◌≤◌, inl, inr, List, [], ◌∷◌, Some, Result, Ok, Err, refl, sym, subst, ◌∙◌, arith}
 use Rattle.std.specs.Fmt.{digits}
 use Rattle.std.specs.Prelude.{slice_get}
 use Rattle.mc_text.specs.Number.{hex}
@@ -7,19 +7,16 @@ use Rattle.mc_text.proofs.OneSpelling.{hex-once}
 use Rattle.elf_image.specs.Image.{code_of_file}
 use Rattle.elf_image.specs.declared.symbol.NameFault.{NameFault}
 use Rattle.elf_image.specs.declared.symbol.NameFault.TheVariants as name_fault
-use Rattle.flow_graph.specs.Flow.{Next}
-use Rattle.flow_graph.specs.Graph.{IsGraphOf}
-use Rattle.flow_graph.specs.Reach.{IsFault}
 use Rattle.flow_graph.specs.declared.outside.Outside.{Outside}
 use Rattle.flow_graph.specs.declared.outside.Outside.TheVariants.{ManyExits}
-use Rattle.loop_forest.specs.Cycles.{ShowsTwoEntries}
 use Rattle.code_gen.specs.ElfFile.{start}
 use Rattle.code_runs.proofs.WordLemmas.{program-code}
 use Rattle.code_runs.proofs.Flows.{no-fault, no-forest-fault, no-two-entries}
 use Rattle.decompiler.specs.Names.{Spells, StandsFor}
-use Rattle.decompiler.specs.Faults.{IsFirst, Missing, Doubled, InCode, InCycle, InLoop}
+use Rattle.decompiler.specs.Faults.{IsCauseAlone, IsFirst, IsOutside, Missing, Doubled, InFunction, InCode, InCycle, InLoop}
 use Rattle.decompiler.specs.Listing.{IsRefusedBy, alone_form}
 use Rattle.decompiler.specs.Refusals.{IsFaultBy}
+use Rattle.call_graph.specs.declared.fault.LinkWhy.{LinkWhy}
 use Rattle.call_graph.specs.declared.fault.LinkWhy.TheVariants as link
 use Rattle.path_walk.specs.declared.proof.DecompileFault.{DecompileFault}
 use Rattle.path_walk.specs.declared.proof.DecompileFault.TheVariants.{Refused}
@@ -51,22 +48,22 @@ has-address file why (inr n) = n.0 start spells
 
 -- ---- its faults
 
-pub in-fragment : (number size : ℕ) (why : Outside) → size ≤ 600 → IsFirst (file_of number size) function_name why → ⊥
+outside : (number size : ℕ) (why : Outside) → size ≤ 600 → IsOutside (code_of_file (file_of number size)) start why → ⊥
+outside number size why small (InCode f) = no-fault number size (code_of_file (file_of number size)) why small (program-code number size small) f
+outside number size _ small (InCycle {cycle = cycle} {first = first} {second = second} g r t) =
+    no-two-entries number size (code_of_file (file_of number size)) g small (program-code number size small) r (record { cycle = cycle; first = first; second = second; shows = t })
+outside number size _ small (InLoop {a = a} g r m) = no-forest-fault number size (code_of_file (file_of number size)) g (ManyExits a) small (program-code number size small) r m
+
+no-cause : (number size : ℕ) (why : LinkWhy) → size ≤ 600 → IsCauseAlone (code_of_file (file_of number size)) start why → ⊥
+no-cause number size (link.Outside why) small h = outside number size why small h
+no-cause number size (link.Recursive a) small h = h
+
+pub in-fragment : (number size : ℕ) (why : LinkWhy) → size ≤ 600 → IsFirst IsCauseAlone (file_of number size) function_name why → ⊥
 in-fragment number size _ small (Missing s) = has-address (file_of number size) name_fault.NoSuch s
 in-fragment number size _ small (Doubled {a = a} {b = b} s) = has-address (file_of number size) (name_fault.Ambiguous a b) s
-in-fragment number size _ small (InCode {e = e} {why = why} s f) =
+in-fragment number size why small (InFunction {e = e} s cause) =
     let file : List ℕ = file_of number size in
-    no-fault number size (code_of_file file) why small (program-code number size small)
-    (subst (λ a. IsFault false (code_of_file file) a why) (stands-at file e s) f)
-in-fragment number size _ small (InCycle {e = e} {cycle = cycle} {first = first} {second = second} g s r t) =
-    let file : List ℕ = file_of number size in
-    let at : e ≡ start = stands-at file e s in
-    no-two-entries number size (code_of_file file) g small (program-code number size small) (subst (λ a. IsGraphOf false (code_of_file file) a g) at r)
-    (record { cycle = cycle; first = first; second = second; shows = subst (λ a. ShowsTwoEntries (Next false (code_of_file file)) a cycle first second) at t })
-in-fragment number size _ small (InLoop {e = e} {a = a} g s r m) =
-    let file : List ℕ = file_of number size in
-    no-forest-fault number size (code_of_file file) g (ManyExits a) small (program-code number size small)
-    (subst (λ b. IsGraphOf false (code_of_file file) b g) (stands-at file e s) r) m
+    no-cause number size why small (subst (λ a. IsCauseAlone (code_of_file file) a why) (stands-at file e s) cause)
 
 -- ---- refusals
 
@@ -81,4 +78,4 @@ not-refused number size names fault k why small are is h =
     let file : List ℕ = file_of number size in
     let r : IsRefusedBy alone_form file names k (link.Outside why) = subst (IsFaultBy alone_form file names) is h in
     let name : r.name ≡ function_name = only-name function_name r.name k ((λ i. slice_get (sym are i) k) ∙ r.at) in
-    in-fragment number size why small (subst (λ n. IsFirst file n why) name r.first)
+    in-fragment number size (link.Outside why) small (subst (λ n. IsFirst IsCauseAlone file n (link.Outside why)) name r.first)

@@ -50,7 +50,7 @@ use Rattle.decompiler.specs.Listing.{AreDefsOf, Lists}
 use Rattle.decompiler.specs.Names.{StandsFor}
 use Rattle.decompiler.proofs.CodeListed.{bytes_are, ranges_small, registers_are}
 use Rattle.decompiler.proofs.Definitions.{defs-of-one, defs_alone, entry-alone}
-use Rattle.decompiler.proofs.Fragment.{in_fragment}
+use Rattle.decompiler.proofs.Fragment.{alone-inside, none-first}
 use Rattle.decompiler.proofs.PartsListed.{defs_are}
 use Rattle.stack_split.specs.Listing.{IsSplitItemFor, split_form}
 use Rattle.stack_offsets.specs.SplitExact.{UsesSplit}
@@ -182,7 +182,7 @@ pub split-is : (file name : List ℕ) (e : ℕ) (g : GraphOf) (f : ForestOf) (se
 split-is file name e g f second item stands named bytes graph forest are is = record {
   entry = e;
   stands = stands;
-  inside = in_fragment file name e g f stands graph forest;
+  inside = none-first split_form file name e stands (alone-inside (code_of_file file) e g f graph forest);
   functions = function_in e g f second is.parts ∷ [];
   are = entry-alone e;
   reached = is.reached ∙ sym (zero-add (length g.addrs));

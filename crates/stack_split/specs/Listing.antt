@@ -6,7 +6,7 @@ use Rattle.flow_graph.specs.Flow.{Next}
 use Rattle.flow_graph.specs.Walks.{Reaches}
 use Rattle.stack_offsets.specs.SplitExact.{SplitExact, UsesSplit}
 use Rattle.path_walk.specs.declared.item.Item.{Item}
-use Rattle.decompiler.specs.Faults.{IsFaultAlone}
+use Rattle.decompiler.specs.Faults.{IsCauseAlone}
 use Rattle.decompiler.specs.Listing.{IsItemBy, ItemForm}
 use Rattle.claims.specs.LinkExact.{FirstReturnsIn}
 
@@ -15,7 +15,7 @@ abbrev pub split_form : ItemForm
 split_form = record {
   linked = false;
   Calls = λ code a b. ⊥;
-  IsFirst = IsFaultAlone;
+  Causes = IsCauseAlone;
   Reached = λ code e. Reaches (Next false code) e;
   HasMemories = λ Uses mems. mems ≡ 2;
   Uses = UsesSplit;

@@ -8,11 +8,12 @@ ghost use Rattle.flow_graph.specs.Graph.{IsGraphOf};
 ghost use Rattle.decompiler.specs.Listing.{AreItemsBy};
 ghost use Rattle.decompiler.specs.Names.{StandsFor};
 ghost use Rattle.decompiler.specs.Refusals.{IsFaultBy};
-ghost use Rattle.decompiler.specs.inner.Functions.{IsNoFunction, IsNoItem};
+ghost use Rattle.decompiler.specs.inner.Functions.{IsNoFunction};
 ghost use Rattle.stack_split.specs.Listing.{IsSplitItemFor, split_form};
 ghost use Rattle.stack_split.specs.inner.Accesses.{AreStackAccesses};
 
-use decompiler::{address_of, law_of_bytes, outside_of, refusal};
+use call_graph::CallGraphFault;
+use decompiler::{MakeItems, cause_of, fault_alone, items_of, law_of_bytes};
 use elf_image::{Image, law_of_image};
 use flow_graph::{FlowFault, Graph, build};
 use loop_forest::find_loops;
@@ -20,6 +21,27 @@ use path_walk::{DecompileFault, Item, Proof, split_item};
 use rv_words::{List, NoMemory, Text};
 use stack_offsets::stack_accesses;
 use std::alloc::Global;
+
+/// The form of functions that call none, with a memory for the stack.
+#[derive(Clone, Copy, Debug, Drop)]
+pub struct WithStack;
+
+impl MakeItems for WithStack {
+    ghost form = { split_form };
+
+    fn function_at(
+        &self,
+        alloc: Global,
+        image: &Image,
+        entry: u64,
+        name: Text,
+    ) -> Result<Item, CallGraphFault> {
+        match split_at(alloc, image, entry, name) {
+            Ok(item) => Ok(item),
+            Err(why) => Err(cause_of(why)),
+        }
+    }
+}
 
 /// An item for each of these names of a file, in which stack accesses use the second memory and all
 /// others the first; or the first of the names that is outside the fragment.
@@ -32,41 +54,14 @@ pub fn split(alloc: Global, image: &Image, names: &List<Text>) -> Result<Proof, 
         → image.now ≡ image_of file
         → IfErr result (IsFaultBy split_form file names.now) }
 {
-    let all = names.as_slice();
-    let mut items = List::new(alloc);
-    let mut i = 0;
-    'names: while i < all.len() {
-        match item_for(alloc, image, &all[i]) {
-            Ok(item) => items.push(item)?,
-            Err(why) => return Err(refusal(i as u64, why)),
-        }
-        i += 1;
-    }
-    Ok(Proof { items })
-}
-
-/// The item of a name.
-fn item_for(alloc: Global, image: &Image, name: &Text) -> Result<Item, FlowFault>
-    requires { IsName name.now }
-    ensures item { (file : Items ℕ)
-        → image.now ≡ image_of file
-        → IfOk result (IsSplitItemFor file name.now) }
-    ensures none { (file : Items ℕ)
-        → image.now ≡ image_of file
-        → IfErr result (IsNoItem file name.now) }
-{
-    law_of_image(image);
-    match address_of(image, name.as_slice()) {
-        Ok(entry) => {
-            let name = List::from_slice(alloc, name.as_slice())?;
-            function_at(alloc, image, entry, name)
-        }
-        Err(why) => Err(FlowFault::Outside(outside_of(why))),
+    match items_of(alloc, image, names, &WithStack) {
+        Ok(proof) => Ok(proof),
+        Err(fault) => Err(fault_alone(fault)),
     }
 }
 
 /// The item of the function at an address, under that name.
-fn function_at(alloc: Global, image: &Image, entry: u64, name: Text) -> Result<Item, FlowFault>
+fn split_at(alloc: Global, image: &Image, entry: u64, name: Text) -> Result<Item, FlowFault>
     requires { IsName name }
     ensures item { (file : Items ℕ)
         → image.now ≡ image_of file

@@ -5,26 +5,17 @@ use Rattle.path_walk.specs.declared.item.Item.{Item}
 use Rattle.mcdec_words.specs.declared.command.Form.{Form}
 use Rattle.mcdec_answers.specs.declared.answer.Answer.{Answer}
 use Rattle.mcdec_answers.specs.declared.answer.Answer.TheVariants as answer
-use Rattle.path_walk.specs.declared.proof.DecompileFault.{DecompileFault}
-use Rattle.path_walk.specs.declared.proof.DecompileFault.TheVariants as alone
-use Rattle.call_graph.specs.declared.fault.LinkWhy.TheVariants as link
-use Rattle.call_link.specs.declared.fault.LinkFault.{LinkFault}
-use Rattle.call_link.specs.declared.fault.LinkFault.TheVariants as fault
-use Rattle.mcdec_commands.specs.DecompileAnswer.{DecompileGives, IsRefusedIn}
+use Rattle.decompiler.specs.Refusals.{IsNoProofBy}
+use Rattle.decompiler.specs.declared.fault.LinkFault.{LinkFault}
+use Rattle.mcdec_commands.specs.DecompileAnswer.{DecompileGives, item_form}
 
 -- the item's group has a definition
 abbrev pub HasDef : Item → Type 0
 HasDef item = 1 ≤ length (group_tree item.group).defs
 
--- why there is no proof of functions by themselves, as one of the reasons for linked functions
-abbrev pub link_fault : DecompileFault → LinkFault
-link_fault (alone.Refused number why) = fault.Refused number (link.Outside why)
-link_fault alone.NoMemory = fault.NoMemory
-
 -- why there is no proof for these names
 abbrev pub IsNoProofIn : Form → (file : List ℕ) (names : List (List ℕ)) → LinkFault → Type 0
-IsNoProofIn form file names (fault.Refused number why) = IsRefusedIn form file names number why
-IsNoProofIn form file names fault.NoMemory = Unit {0}
+IsNoProofIn form file names why = IsNoProofBy (item_form form) file names why
 
 -- what is answered of these names, where the ELF file has these bytes and can be read
 abbrev pub FileGives : Form → (file : List ℕ) (names : List (List ℕ)) → Answer → Type 0

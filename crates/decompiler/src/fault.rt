@@ -1,21 +1,21 @@
-//! Why there is no proof of linked functions.
+//! Why there is no proof, in any form.
 
 ghost use Rattle.std.specs.Prelude.{◌≡◌};
 
 use call_graph::LinkWhy;
 use rv_words::NoMemory;
 
-/// Why there is no proof of linked functions.
+/// Why there is no proof.
 #[derive(Debug, Drop)]
 pub enum LinkFault {
-    /// The functions of the name of that number, counted from 0, can't be linked.
+    /// The name of that number, counted from 0, has this fault.
     Refused { name: u64, why: LinkWhy },
     /// There was no memory.
     NoMemory,
 }
 
 impl From<NoMemory> for LinkFault {
-    ghost use Rattle.call_link.specs.declared.fault.LinkFault.TheVariants.{NoMemory};
+    ghost use Rattle.decompiler.specs.declared.fault.LinkFault.TheVariants.{NoMemory};
 
     ghost from_gives = { λ _ e. e ≡ NoMemory };
 

@@ -3,7 +3,7 @@ use Rattle.rv_words.specs.Bytes.{AreBytes, Bytes}
 use Rattle.flow_graph.specs.Graph.{IsGraphOf}
 use Rattle.path_walk.specs.Split.{IsSplitItem}
 use Rattle.stack_split.proofs.Items.{split-is}
-use Rattle.stack_split.proofs.functions.function_at.Goals as goal
+use Rattle.stack_split.proofs.functions.split_at.Goals as goal
 
 pub returns-clause-item : goal.returns-clause-item
 returns-clause-item c file is stands =

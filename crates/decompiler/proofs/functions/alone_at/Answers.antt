@@ -2,7 +2,7 @@ use Rattle.std.proofs.Common.{subst, false}
 use Rattle.rv_words.specs.Bytes.{AreBytes, Bytes}
 use Rattle.flow_graph.specs.Graph.{IsGraphOf}
 use Rattle.decompiler.proofs.Items.{item_is}
-use Rattle.decompiler.proofs.functions.function_at.Goals as goal
+use Rattle.decompiler.proofs.functions.alone_at.Goals as goal
 
 pub returns-clause-item : goal.returns-clause-item
 returns-clause-item c file is stands =
