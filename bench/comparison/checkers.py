@@ -120,10 +120,10 @@ def table(counts, kind):
     """The lines of a table of one kind of counts, by version."""
     found = sorted({name for what, name, _ in counts if what == kind}, key=lambda name: (name.startswith("unreadable elf"), name))
     width = max(map(len, [kind, *found])) + 1
-    yield f"{kind:{width}}" + "".join(f"{version:>9}" for version in VERSIONS) + f"{'all':>9}"
+    yield f"{kind:{width}}" + "".join(f"{version:>10}" for version in VERSIONS) + f"{'all':>10}"
     for name in [*found, "all"]:
         row = [sum(count for (what, other, place), count in counts.items() if what == kind and name in (other, "all") and place == version) for version in VERSIONS]
-        yield f"{name:{width}}" + "".join(f"{count:9,}" for count in [*row, sum(row)])
+        yield f"{name:{width}}" + "".join(f"{count:10,}" for count in [*row, sum(row)])
 
 
 def whole_words(arguments):
