@@ -14,6 +14,7 @@ import pathlib
 import re
 import subprocess
 import sys
+import tempfile
 import time
 
 TOP = pathlib.Path(__file__).resolve().parent.parent
@@ -39,7 +40,7 @@ class Process:
         program = os.path.basename(self.words[0])
         if program == "rattle" and "--crate-name" in self.words:
             crate = self.words[self.words.index("--crate-name") + 1]
-            if "rt-edits" in self.folder or any("rt-edits" in word for word in self.words):
+            if any("/rt-edit" in word for word in (self.folder, *self.words)):
                 return crate, "edits"
             return crate, "tests" if "--test" in self.words else "proof"
         crate = re.search(r"/crates/(\w+)", self.folder)
@@ -73,18 +74,17 @@ def below(found, root):
 def run(names):
     """Runs the gate; gives its status, its last line, and the seconds of each crate and kind."""
     seconds, begun = {}, time.time()
-    with subprocess.Popen(["rt", "ci", *names], cwd=TOP, stdout=subprocess.PIPE, text=True, bufsize=1) as gate:
-        os.set_blocking(gate.stdout.fileno(), False)
-        said = ""
-        while gate.poll() is None:
-            found = processes()
-            for number in below(found, gate.pid):
-                if number in found:
-                    process = found[number]
-                    seconds[number, process.begun] = (*process.crate_and_kind(), process.seconds)
-            said += gate.stdout.read() or ""
-            time.sleep(1)
-        said += gate.stdout.read() or ""
+    with tempfile.TemporaryFile("w+") as told:
+        with subprocess.Popen(["rt", "ci", *names], cwd=TOP, stdout=told) as gate:
+            while gate.poll() is None:
+                found = processes()
+                for number in below(found, gate.pid):
+                    if number in found:
+                        process = found[number]
+                        seconds[number, process.begun] = (*process.crate_and_kind(), process.seconds)
+                time.sleep(1)
+        told.seek(0)
+        said = told.read()
     sys.stdout.write(said)
     table = collections.defaultdict(lambda: dict.fromkeys(KINDS, 0.0))
     for crate, kind, spent in seconds.values():
@@ -99,7 +99,7 @@ def write(last, table, wall):
     result = {
         "kit": kit,
         "day": datetime.date.today().isoformat(),
-        "processors": os.cpu_count(),
+        "processors": len(os.sched_getaffinity(0)),
         "jobs": os.environ.get("RT_JOBS", ""),
         "wall": round(wall),
         "seconds": sum(row[kind] for row in rows for kind in KINDS),
