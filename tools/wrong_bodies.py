@@ -81,14 +81,16 @@ def try_outside(crate, names):
     with tempfile.TemporaryDirectory() as folder:
         copy = pathlib.Path(folder) / "repository"
         subprocess.run(["git", "clone", "-q", TOP, copy], check=True)
+        for in_gate in copy.glob("crates/*/must-fail"):
+            shutil.rmtree(in_gate)
         tried = copy / "crates" / crate / "must-fail"
-        shutil.rmtree(tried, ignore_errors=True)
         tried.mkdir()
         for edit in chosen:
             shutil.copy(edit, tried)
         # The gate's own tries of a crate: it begins with what the gate has kept of the crates below.
         done = subprocess.run(["rt", "ci", crate], cwd=copy, capture_output=True, text=True)
-    said = {found["name"]: found["said"] for found in map(TOLD.match, done.stdout.split("\n")) if found}
+    told = [found for found in map(TOLD.match, done.stdout.split("\n")) if found and found["crate"] == crate]
+    said = {found["name"]: found["said"] for found in told}
     record(crate, said)
     missing = [edit.stem for edit in chosen if not said.get(edit.stem, "").startswith("refused")]
     for edit in chosen:
