@@ -44,5 +44,5 @@ class GateTest(unittest.TestCase):
         self.assertRegex(printed, r"(?m)^rv_words +[12] ")
 
     def test_wrong_bodies_are_apart(self):
-        table, _ = self.run_gate("/tmp/rt-edits-1-x/seed")
+        table, _ = self.run_gate("scratch/rt-edits-1/seed")
         self.assertRegex(table, r'"crate": "rv_words",\s+"proof": 0,\s+"tests": 0,\s+"edits": [12],')
