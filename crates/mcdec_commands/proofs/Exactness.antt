@@ -35,7 +35,7 @@ use Rattle.mcdec_commands.specs.DecompileAnswer.{DecompileGives, IsRefusedIn, al
 use Rattle.mcdec_answers.specs.declared.answer.Listed.{Listed}
 use Rattle.mcdec_answers.specs.declared.answer.SelfTestAnswer.{SelfTestAnswer}
 use Rattle.mcdec_commands.specs.SelfTestAnswer.{SelfTestGives, without_turns}
-use Rattle.code_runs.specs.Runs.{behind}
+use Rattle.self_test.specs.Runs.{behind}
 use Rattle.self_test.specs.Results.{most_steps}
 use Rattle.self_test.specs.Start.{begin, file_of, function_name}
 use Rattle.mcdec_answers.specs.declared.answer.SimplifyAnswer.{SimplifyAnswer}

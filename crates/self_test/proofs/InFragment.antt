@@ -10,8 +10,8 @@ use Rattle.elf_image.specs.declared.symbol.NameFault.TheVariants as name_fault
 use Rattle.flow_graph.specs.declared.outside.Outside.{Outside}
 use Rattle.flow_graph.specs.declared.outside.Outside.TheVariants.{ManyExits}
 use Rattle.code_gen.specs.ElfFile.{start}
-use Rattle.code_runs.proofs.WordLemmas.{program-code}
-use Rattle.code_runs.proofs.Flows.{no-fault, no-forest-fault, no-two-entries}
+use Rattle.self_test.proofs.WordLemmas.{program-code}
+use Rattle.self_test.proofs.Flows.{no-fault, no-forest-fault, no-two-entries}
 use Rattle.decompiler.specs.Names.{Spells, StandsFor}
 use Rattle.decompiler.specs.Faults.{IsCauseAlone, IsFirst, IsOutside, Missing, Doubled, InFunction, InCode, InCycle, InLoop}
 use Rattle.decompiler.specs.Listing.{IsRefusedBy, alone_form}

@@ -2,3 +2,13 @@ pub mod SetUp
 pub mod InFragment
 pub mod Returned
 pub mod Evaluated
+pub mod Ways
+pub mod Passing
+pub mod Turns
+pub mod Through
+pub mod FileLemmas
+pub mod WordLemmas
+pub mod Edges
+pub mod Leads
+pub mod Loops
+pub mod Flows

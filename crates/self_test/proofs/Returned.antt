@@ -17,11 +17,11 @@ use Rattle.claims.specs.Exact.{FirstReturns, Gives}
 use Rattle.path_walk.specs.declared.item.Item.{Item}
 use Rattle.decompiler.specs.Listing.{IsItemFor}
 use Rattle.code_gen.specs.Program.{program_of}
-use Rattle.code_runs.specs.Files.{piece_of_words}
-use Rattle.code_runs.specs.Runs.{Returns, StartsProgram, behind}
-use Rattle.code_runs.proofs.FileLemmas.{body-length}
-use Rattle.code_runs.proofs.Through.{returns}
-use Rattle.code_runs.proofs.WordLemmas.{few-words, program-memory}
+use Rattle.self_test.specs.Files.{piece_of_words}
+use Rattle.self_test.specs.Runs.{Returns, StartsProgram, behind}
+use Rattle.self_test.proofs.FileLemmas.{body-length}
+use Rattle.self_test.proofs.Through.{returns}
+use Rattle.self_test.proofs.WordLemmas.{few-words, program-memory}
 use Rattle.self_test.specs.Start.{begin, empty_regions, file_of, function_name}
 use Rattle.self_test.specs.Results.{most_steps}
 use Rattle.self_test.proofs.InFragment.{stands-at}

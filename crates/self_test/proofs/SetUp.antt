@@ -10,10 +10,10 @@ use Rattle.rv_machine.specs.State.{State, empty_state, with_bytes}
 use Rattle.rv_machine.specs.Step.{writes}
 use Rattle.code_gen.specs.ElfFile.{little, start}
 use Rattle.code_gen.specs.Program.{program_of}
-use Rattle.code_runs.specs.Files.{piece_of_words}
-use Rattle.code_runs.specs.Runs.{behind}
-use Rattle.code_runs.proofs.FileLemmas.{body-length, image, one-piece, readable}
-use Rattle.code_runs.proofs.WordLemmas.{few-words, padding}
+use Rattle.self_test.specs.Files.{piece_of_words}
+use Rattle.self_test.specs.Runs.{behind}
+use Rattle.self_test.proofs.FileLemmas.{body-length, image, one-piece, readable}
+use Rattle.self_test.proofs.WordLemmas.{few-words, padding}
 use Rattle.self_test.specs.Start.{begin, file_of, given}
 
 pub file-piece : (number size : ℕ) → size ≤ 600 → pieces_of (file_of number size) ≡ piece_of_words (program_of number size) ∷ []

@@ -1,2 +1,4 @@
 pub mod Start
 pub mod Results
+pub mod Runs
+pub mod Files

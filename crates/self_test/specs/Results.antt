@@ -8,7 +8,7 @@ use Rattle.tailrec_lang.specs.Eval.{Arguments, Done, eval}
 use Rattle.claims.specs.Headline.{held_in}
 use Rattle.path_walk.specs.declared.item.Item.{Item}
 use Rattle.decompiler.specs.Listing.{IsItemFor}
-use Rattle.code_runs.specs.Runs.{behind}
+use Rattle.self_test.specs.Runs.{behind}
 use Rattle.self_test.specs.Start.{file_of, function_name, begin, empty_regions}
 use Rattle.self_test.specs.declared.outcome.Outcome.{Outcome}
 

@@ -6,7 +6,7 @@ use Rattle.tailrec_lang.specs.Tree.{GroupTree}
 use Rattle.claims.specs.Headline.{Region}
 use Rattle.code_gen.specs.ElfFile.{elf_of, start}
 use Rattle.code_gen.specs.Program.{program_of}
-use Rattle.code_runs.specs.Runs.{behind}
+use Rattle.self_test.specs.Runs.{behind}
 
 -- the file of the program that is drawn from a number
 abbrev pub file_of : ℕ → ℕ → List ℕ

@@ -1,6 +1,6 @@
 use Rattle.std.proofs.Common.{◌≤◌, ◌^◌, ◌∙◌, length, ap, sym, subst}
 use Rattle.code_gen.specs.ElfFile.{elf_of}
-use Rattle.code_runs.proofs.WordLemmas.{few-words}
+use Rattle.self_test.proofs.WordLemmas.{few-words}
 use Rattle.self_test.proofs.SetUp.{never-fault}
 use Rattle.self_test.proofs.outcome.drawn_image.Goals as goal
 

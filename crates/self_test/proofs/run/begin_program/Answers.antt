@@ -4,7 +4,7 @@ use Rattle.rv_words.specs.Bytes.{bytes_from}
 use Rattle.rv_machine.specs.State.{state_of, with_bytes}
 use Rattle.rv_machine.specs.Step.{writes}
 use Rattle.code_gen.specs.Program.{program_of}
-use Rattle.code_runs.specs.Files.{piece_of_words}
+use Rattle.self_test.specs.Files.{piece_of_words}
 use Rattle.self_test.proofs.SetUp.{begun, first-piece, piece-fits, some-piece}
 use Rattle.self_test.proofs.run.begin_program.Goals as goal
 

@@ -2,7 +2,7 @@ use Rattle.std.proofs.Common.{sym, subst}
 use Rattle.rv_machine.specs.State.{state_of}
 use Rattle.rv_machine.specs.Run.{EndsIn}
 use Rattle.rv_machine.specs.declared.running.RunEnd.TheVariants as end
-use Rattle.code_runs.specs.Runs.{behind}
+use Rattle.self_test.specs.Runs.{behind}
 use Rattle.self_test.specs.Results.{most_steps}
 use Rattle.self_test.proofs.Returned.{no-other}
 use Rattle.self_test.proofs.run.run_program.Goals as goal

@@ -16,8 +16,8 @@ ghost use Rattle.code_gen.specs.Pieces.{Pieces};
 ghost use Rattle.code_gen.specs.Program.{code, instructions, program_of};
 ghost use Rattle.code_gen.specs.Structure.{AreShaped, EachAt, IsWordAt};
 ghost use Rattle.code_gen.specs.ElfFile.{elf_of, start};
-ghost use Rattle.code_runs.specs.Files.{piece_of_words};
-ghost use Rattle.code_runs.specs.Runs.{PassesThrough, Returns, StartsProgram};
+ghost use Rattle.self_test.specs.Files.{piece_of_words};
+ghost use Rattle.self_test.specs.Runs.{PassesThrough, Returns, StartsProgram};
 
 /// The machine comes from the first instruction of pieces to right behind their last one, in no
 /// more steps than they take at most. It changes no byte, and of the registers below the counters

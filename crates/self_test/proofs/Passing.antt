@@ -18,7 +18,7 @@ use Rattle.rv_machine.specs.Step.{instruction_at, is_even, length_at, next, plus
 use Rattle.rv_machine.specs.Update.{is_possible, mem_after, pc_after, updated}
 use Rattle.rv_machine.proofs.StepLemmas.{instruction_at-is, length_at-is, updated-step}
 use Rattle.code_gen.specs.Structure.{IsWordAt}
-use Rattle.code_runs.proofs.Ways.{Way, stays, goes, join, is_plain}
+use Rattle.self_test.proofs.Ways.{Way, stays, goes, join, is_plain}
 
 -- code stands from b on, up to q at most, in memory m
 pub record Ground (q b : ℕ) : Type 0 where

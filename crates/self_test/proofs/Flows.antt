@@ -31,9 +31,9 @@ use Rattle.code_gen.specs.ElfFile.{start}
 use Rattle.code_gen.proofs.SizeLemmas.{count, drawn-count}
 use Rattle.code_gen.proofs.ShapeLemmas.{drawn-shaped}
 use Rattle.code_gen.proofs.TargetLemmas.{each-split}
-use Rattle.code_runs.proofs.Edges.{Edge, edge-within}
-use Rattle.code_runs.proofs.Leads.{Ground, at, Leads, all-lead, looked, none-there}
-use Rattle.code_runs.proofs.Loops.{Laid, in_post_order, few-exits}
+use Rattle.self_test.proofs.Edges.{Edge, edge-within}
+use Rattle.self_test.proofs.Leads.{Ground, at, Leads, all-lead, looked, none-there}
+use Rattle.self_test.proofs.Loops.{Laid, in_post_order, few-exits}
 
 -- the return
 abbrev return : Instr

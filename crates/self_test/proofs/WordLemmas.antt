@@ -21,9 +21,9 @@ use Rattle.code_gen.specs.Structure.{EachAt}
 use Rattle.code_gen.specs.ElfFile.{little, elf_of, start}
 use Rattle.code_gen.proofs.Each.{Each, each-append}
 use Rattle.code_gen.proofs.CodeLemmas.{program-few}
-use Rattle.code_runs.specs.Files.{piece_of_words}
+use Rattle.self_test.specs.Files.{piece_of_words}
 use Rattle.code_gen.specs.Structure.{IsWordAt}
-use Rattle.code_runs.proofs.FileLemmas.{body-length, one-piece}
+use Rattle.self_test.proofs.FileLemmas.{body-length, one-piece}
 
 -- ---- words have 32 bits
 

@@ -9,7 +9,7 @@ use Rattle.rv_machine.specs.Step.{instruction_at, step}
 use Rattle.rv_machine.specs.Run.{run, Misses, IsAtReturn}
 use Rattle.rv_machine.specs.Touches.{touched, touched_by, touches, nothing}
 use Rattle.rv_machine.proofs.RunLemmas.{run-more}
-use Rattle.code_runs.specs.Runs.{TouchesNothing}
+use Rattle.self_test.specs.Runs.{TouchesNothing}
 
 -- an operation, a jump by an offset or a branch
 abbrev pub is_plain : Instr → Bool

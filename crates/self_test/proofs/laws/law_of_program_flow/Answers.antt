@@ -1,5 +1,5 @@
-use Rattle.code_runs.proofs.Flows.{no-fault, no-forest-fault, no-two-entries}
-use Rattle.code_runs.proofs.laws.law_of_program_flow.Goals as goal
+use Rattle.self_test.proofs.Flows.{no-fault, no-forest-fault, no-two-entries}
+use Rattle.self_test.proofs.laws.law_of_program_flow.Goals as goal
 
 pub returns-clause-no_fault : goal.returns-clause-no_fault
 returns-clause-no_fault c = no-fault

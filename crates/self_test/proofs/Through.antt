@@ -21,10 +21,10 @@ use Rattle.code_gen.proofs.SizeLemmas.{drawn-count}
 use Rattle.code_gen.proofs.StepLemmas.{drawn-steps}
 use Rattle.code_gen.proofs.TargetLemmas.{each-split}
 use Rattle.rv_machine.specs.Run.{IsAtReturn}
-use Rattle.code_runs.specs.Runs.{PassesThrough, StartsProgram, Returns, behind}
-use Rattle.code_runs.proofs.Ways.{way-run, return-run, return-misses, return-untouched, return-last, return-first}
-use Rattle.code_runs.proofs.Passing.{Ground, At, Passes, Here, none, found, four, glue, under, within, immediate, register, jumps, taken, passed, written}
-use Rattle.code_runs.proofs.Turns.{Loop, turns, no_zero}
+use Rattle.self_test.specs.Runs.{PassesThrough, StartsProgram, Returns, behind}
+use Rattle.self_test.proofs.Ways.{way-run, return-run, return-misses, return-untouched, return-last, return-first}
+use Rattle.self_test.proofs.Passing.{Ground, At, Passes, Here, none, found, four, glue, under, within, immediate, register, jumps, taken, passed, written}
+use Rattle.self_test.proofs.Turns.{Loop, turns, no_zero}
 
 moved : {q b d x : ℕ} {m : Bytes} {s : State} (j k : ℕ) → j ≡ k → Passes q b m d s j x → Passes q b m d s k x
 moved {q} {b} {d} {x} {m} {s} j k e p = subst (λ n. Passes q b m d s n x) e p

@@ -12,7 +12,7 @@ use Rattle.elf_image.specs.declared.fault.ElfFault.{ElfFault}
 use Rattle.elf_image.specs.declared.fault.ElfFault.TheVariants.{Cut, Sizes, TooBig, Wraps}
 use Rattle.byteorder.specs.Endian.{little_number}
 use Rattle.code_gen.specs.ElfFile.{little, field_bytes, identification, fields, elf_of, start}
-use Rattle.code_runs.specs.Files.{piece_of_words}
+use Rattle.self_test.specs.Files.{piece_of_words}
 
 -- the bytes before the words
 abbrev header : ℕ → List ℕ

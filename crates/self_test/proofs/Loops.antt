@@ -10,7 +10,7 @@ use Rattle.loop_forest.specs.Regions.{HasManyExits, loop_exit_limit}
 use Rattle.loop_forest.proofs.BackEdgeLemmas.{back_iff}
 use Rattle.code_gen.specs.Pieces.{Pieces}
 use Rattle.code_gen.proofs.SizeLemmas.{count}
-use Rattle.code_runs.proofs.Edges.{Edge, Back, back-within, edge-forth, enters-at-head, stays-inside, leaves-at-end, one-back}
+use Rattle.self_test.proofs.Edges.{Edge, Back, back-within, edge-forth, enters-at-head, stays-inside, leaves-at-end, one-back}
 
 -- the nodes of a graph have places of the code of pieces or the one behind it, and its edges are theirs
 pub record Laid (p : Pieces) (g : GraphOf) (place : ℕ → ℕ) : Type 0 where

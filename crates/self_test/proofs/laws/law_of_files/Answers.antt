@@ -1,5 +1,5 @@
-use Rattle.code_runs.proofs.FileLemmas.{readable, image}
-use Rattle.code_runs.proofs.laws.law_of_files.Goals as goal
+use Rattle.self_test.proofs.FileLemmas.{readable, image}
+use Rattle.self_test.proofs.laws.law_of_files.Goals as goal
 
 pub returns-clause-readable : goal.returns-clause-readable
 returns-clause-readable c = readable

@@ -25,7 +25,7 @@ use Rattle.code_gen.specs.Structure.{AreShaped, EachAt, IsWordAt}
 use Rattle.code_gen.proofs.SizeLemmas.{count, repeat-count}
 use Rattle.code_gen.proofs.TargetLemmas.{each-split}
 use Rattle.code_gen.proofs.CodeLemmas.{adding-encodable, counting-encodable, loop_end-encodable}
-use Rattle.code_runs.proofs.Edges.{Edge}
+use Rattle.self_test.proofs.Edges.{Edge}
 
 -- code stands from b on, and the place behind it is an address
 pub record Ground (b n : ℕ) : Type 0 where

@@ -13,7 +13,7 @@ use Rattle.rv_machine.specs.Step.{plus, reads}
 use Rattle.code_gen.specs.Program.{counter}
 use Rattle.code_gen.proofs.CodeLemmas.{loop_end-encodable}
 use Rattle.code_gen.specs.Structure.{IsWordAt}
-use Rattle.code_runs.proofs.Passing.{Ground, At, Passes, Here, glue, within, around, immediate, taken, passed, written}
+use Rattle.self_test.proofs.Passing.{Ground, At, Passes, Here, glue, within, around, immediate, taken, passed, written}
 
 -- the loop's counter falls by one
 abbrev falling : ℕ → Instr

@@ -1,5 +1,5 @@
-use Rattle.code_runs.proofs.WordLemmas.{program-code, program-memory}
-use Rattle.code_runs.proofs.laws.law_of_program_files.Goals as goal
+use Rattle.self_test.proofs.WordLemmas.{program-code, program-memory}
+use Rattle.self_test.proofs.laws.law_of_program_files.Goals as goal
 
 pub returns-clause-code : goal.returns-clause-code
 returns-clause-code c = program-code
