@@ -11,8 +11,8 @@ use Rattle.proof_text.specs.Line.{LineTree, line_tree}
 use Rattle.further_rules.specs.Rules.{IsSteered}
 use Rattle.checker.specs.Accepts.{IsAcceptedBy}
 use Rattle.claims.specs.Turns.{InFirstMemory, RunsBack}
-use Rattle.exactness.proofs.Counts.{Returning, counts-of, exact-of}
-use Rattle.exactness.proofs.Members.{members-gain}
+use Rattle.decompiler.proofs.Counts.{Returning, counts-of, exact-of}
+use Rattle.decompiler.proofs.Members.{members-gain}
 use Rattle.call_graph.specs.Causes.{IsCallGraphFault}
 use Rattle.call_graph.specs.Functions.{AreFunctions}
 use Rattle.call_graph.specs.declared.fault.CallGraphFault.{CallGraphFault}

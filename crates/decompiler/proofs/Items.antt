@@ -11,8 +11,8 @@ use Rattle.proof_text.specs.Line.{LineTree, line_tree}
 use Rattle.checker.specs.Accepts.{IsAccepted}
 use Rattle.claims.specs.Exact.{FirstReturns}
 use Rattle.claims.specs.Turns.{InFirstMemory}
-use Rattle.exactness.proofs.Counts.{Returning, counts-of, exact-of}
-use Rattle.exactness.proofs.GroupOfParts.{flow-gains}
+use Rattle.decompiler.proofs.Counts.{Returning, counts-of, exact-of}
+use Rattle.decompiler.proofs.GroupOfParts.{flow-gains}
 use Rattle.flow_graph.specs.Graph.{GraphOf, IsGraphOf}
 use Rattle.loop_forest.specs.Forest.{ForestOf, IsForestOf, number_of}
 use Rattle.code_parts.specs.declared.part.Part.{Part}

@@ -39,8 +39,8 @@ use Rattle.code_parts.proofs.GraphCode.{code_in}
 use Rattle.code_parts.proofs.Groups.{group-formed}
 use Rattle.code_parts.proofs.Lists.{in-contains, in-true, length-map, slice-mapped}
 use Rattle.claims.specs.LinkExact.{FirstReturnsIn}
-use Rattle.exactness.proofs.Counts.{Returning, counts-of, exact-of}
-use Rattle.exactness.proofs.Members.{member-gains}
+use Rattle.decompiler.proofs.Counts.{Returning, counts-of, exact-of}
+use Rattle.decompiler.proofs.Members.{member-gains}
 use Rattle.path_walk.specs.Closed.{AreClosedIn}
 use Rattle.path_walk.specs.Split.{IsSplitItem, split}
 use Rattle.path_walk.specs.declared.item.Item.{Item}

@@ -30,10 +30,10 @@ use Rattle.code_parts.specs.Bodies.{Flow, part_def}
 use Rattle.code_parts.specs.Graph.{IsAlone, has_edge, IsEdge, IsPart, IsPlaced, IsGraph, StandsAt, IsCode}
 use Rattle.claims.specs.Headline.{Region, is_within}
 use Rattle.claims.specs.Exact.{FirstReturns, Exact}
-use Rattle.exactness.specs.Parts.{HasParts}
-use Rattle.exactness.proofs.Examples.{some_in, or_none, no_cut}
-use Rattle.exactness.proofs.Counts.{exact-of}
-use Rattle.exactness.proofs.Runs.{gains}
+use Rattle.decompiler.specs.Parts.{HasParts}
+use Rattle.decompiler.proofs.Examples.{some_in, or_none, no_cut}
+use Rattle.decompiler.proofs.Counts.{exact-of}
+use Rattle.decompiler.proofs.Runs.{gains}
 
 abbrev instructions : ℕ → Instr
 instructions n = slice_index_or (instr.Store B4 11 10 (pos 0) ∷ instr.Jalr 0 1 (pos 0) ∷ []) n instr.Ecall

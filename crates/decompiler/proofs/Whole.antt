@@ -31,13 +31,13 @@ use Rattle.claims.specs.Headline.{Region, AreApart, is_within, held_in}
 use Rattle.claims.specs.Headline as headline
 use Rattle.rv_machine.specs.Run.{IsAtReturn}
 use Rattle.claims.specs.LinkExact.{IsAtCall, after_instruction}
-use Rattle.exactness.proofs.Returns.{Steps, IsKept, kept-step, in-one}
-use Rattle.exactness.proofs.StateVariables.{Stands}
-use Rattle.exactness.proofs.BodyLemmas.{AllHold, after_steps, needs-hold, needs-after}
+use Rattle.decompiler.proofs.Returns.{Steps, IsKept, kept-step, in-one}
+use Rattle.decompiler.proofs.StateVariables.{Stands}
+use Rattle.decompiler.proofs.BodyLemmas.{AllHold, after_steps, needs-hold, needs-after}
 use Rattle.code_parts.proofs.Lists.{length-map}
 use Rattle.code_parts.specs.Graph.{has_edge, is_jump_through, StandsAt, IsCode}
-use Rattle.exactness.proofs.PartLaw.{IsDone}
-use Rattle.exactness.proofs.Simulation.{region_of, in-region, held, fits, touched-in, written, only-next, regs_same}
+use Rattle.decompiler.proofs.PartLaw.{IsDone}
+use Rattle.decompiler.proofs.Simulation.{region_of, in-region, held, fits, touched-in, written, only-next, regs_same}
 
 pub same_instr : (i j : Instr) → Some i ≡ Some j → i ≡ j
 same_instr i j e = cc

@@ -21,9 +21,9 @@ use Rattle.code_parts.proofs.FlowGraph.{is-graph}
 use Rattle.code_parts.proofs.FlowMade.{is-alone, is-made}
 use Rattle.code_parts.proofs.Lists.{slice-mapped}
 use Rattle.claims.specs.Exact.{FirstReturns}
-use Rattle.exactness.specs.Parts.{HasParts}
-use Rattle.exactness.proofs.Counts.{Returning}
-use Rattle.exactness.proofs.Runs.{gains}
+use Rattle.decompiler.specs.Parts.{HasParts}
+use Rattle.decompiler.proofs.Counts.{Returning}
+use Rattle.decompiler.proofs.Runs.{gains}
 
 -- the group of a graph whose last part is the rest of the whole function from the entry on
 pub has-parts : (f : Flow) (g : GroupTree) (parts : List Part) (entry : ℕ) → IsMade f g parts → IsPart f (Rest None entry) → length parts ≡ f.number (Rest None entry) + 1 → HasParts f entry g

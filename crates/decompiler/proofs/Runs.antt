@@ -23,13 +23,13 @@ use Rattle.code_parts.specs.Graph.{IsAlone, IsPart, IsGraph, IsCode}
 use Rattle.claims.specs.Headline.{AreApart, Region, is_within, held_in, Ends}
 use Rattle.claims.specs.Exact.{FirstReturns}
 use Rattle.claims.specs.LinkExact.{FirstReturnsIn, after_instruction}
-use Rattle.exactness.specs.Parts.{HasParts, HoldsCode, LeavesAs, Meets, turns_at, turns_for, LawOfPart}
-use Rattle.exactness.proofs.Counts.{Gains, Returning}
-use Rattle.exactness.proofs.Returns.{Steps, Comes, comes-plain, IsKept, kept-here}
-use Rattle.exactness.proofs.StateVariables.{Stands}
-use Rattle.exactness.proofs.PartLaw.{with_address, IsDone, Law, LawsBelow, Leaves, slack, slack_at, part-law}
-use Rattle.exactness.proofs.Simulation.{held}
-use Rattle.exactness.proofs.Whole.{step-done, held-long, held-is}
+use Rattle.decompiler.specs.Parts.{HasParts, HoldsCode, LeavesAs, Meets, turns_at, turns_for, LawOfPart}
+use Rattle.decompiler.proofs.Counts.{Gains, Returning}
+use Rattle.decompiler.proofs.Returns.{Steps, Comes, comes-plain, IsKept, kept-here}
+use Rattle.decompiler.proofs.StateVariables.{Stands}
+use Rattle.decompiler.proofs.PartLaw.{with_address, IsDone, Law, LawsBelow, Leaves, slack, slack_at, part-law}
+use Rattle.decompiler.proofs.Simulation.{held}
+use Rattle.decompiler.proofs.Whole.{step-done, held-long, held-is}
 
 -- the one memory, which each instruction uses
 abbrev InFirst : ℕ → ℕ → Type 0

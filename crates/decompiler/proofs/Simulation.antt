@@ -31,8 +31,8 @@ use Rattle.instr_axioms.proofs.Valid.{StandsIn}
 use Rattle.code_parts.proofs.Counts.{store-writes_none}
 use Rattle.code_parts.specs.Bodies.{Flow, VariableMap, names, is_store, stored, place_after, writes}
 use Rattle.word_terms.proofs.Variables.{new_word, new_mem}
-use Rattle.exactness.proofs.StateVariables.{Stands}
-use Rattle.exactness.proofs.BodyLemmas.{AllHold, after_steps}
+use Rattle.decompiler.proofs.StateVariables.{Stands}
+use Rattle.decompiler.proofs.BodyLemmas.{AllHold, after_steps}
 
 -- ---- lists over the same registers, place by place
 

@@ -23,15 +23,15 @@ use Rattle.code_parts.specs.Graph.{IsPart}
 use Rattle.claims.specs.Headline.{Region, AreApart, is_within, held_in, Starts}
 use Rattle.rv_machine.specs.Run.{IsAtReturn}
 use Rattle.claims.specs.LinkExact.{FirstReturnsIn, IsAtCall, after_instruction}
-use Rattle.exactness.proofs.GroupOfFunctions.{Function, IsOf, HasFunctions, HaveGraphs}
+use Rattle.decompiler.proofs.GroupOfFunctions.{Function, IsOf, HasFunctions, HaveGraphs}
 use Rattle.instr_axioms.proofs.Effects.{cut}
 use Rattle.code_parts.proofs.Lists.{length-map}
-use Rattle.exactness.proofs.Returns.{Steps, Comes, comes, comes-plain, IsKept, kept-here}
-use Rattle.exactness.proofs.StateVariables.{Stands}
+use Rattle.decompiler.proofs.Returns.{Steps, Comes, comes, comes-plain, IsKept, kept-here}
+use Rattle.decompiler.proofs.StateVariables.{Stands}
 use Rattle.claims.specs.Turns.{RunsBack}
-use Rattle.exactness.proofs.Counts.{Gains, Returning}
-use Rattle.exactness.proofs.PartLaw.{with_address, IsDone, LeavesIn, Law, LawsAt, LawsBelow, part-law, whole-law}
-use Rattle.exactness.proofs.Whole.{same_instr, step-done}
+use Rattle.decompiler.proofs.Counts.{Gains, Returning}
+use Rattle.decompiler.proofs.PartLaw.{with_address, IsDone, LeavesIn, Law, LawsAt, LawsBelow, part-law, whole-law}
+use Rattle.decompiler.proofs.Whole.{same_instr, step-done}
 
 module _ (g : GroupTree) (fs : List Function) (main : Function) (has : HasFunctions fs main g) (Uses : ℕ → ℕ → Type 0) (have : HaveGraphs Uses fs g)
     (regions : List Region) (count : length regions ≡ g.mems) (apart : AllPairs AreApart regions)

@@ -2,12 +2,12 @@ use Rattle.std.proofs.Common.{◌∷◌, []}
 use Rattle.claims.specs.Exact.{FirstReturns}
 use Rattle.claims.specs.LinkExact.{FirstReturnsIn}
 use Rattle.code_parts.specs.Flows.{alone, flow_of, group_of}
-use Rattle.exactness.specs.Functions.{UsedBy}
+use Rattle.decompiler.specs.Functions.{UsedBy}
 use Rattle.claims.specs.Turns.{RunsBack}
-use Rattle.exactness.proofs.Counts.{counts-of}
-use Rattle.exactness.proofs.GroupOfParts.{flow-gains}
-use Rattle.exactness.proofs.Members.{gain-by-itself, gain-linked}
-use Rattle.exactness.proofs.laws.law_of_counted_steps.Goals as goal
+use Rattle.decompiler.proofs.Counts.{counts-of}
+use Rattle.decompiler.proofs.GroupOfParts.{flow-gains}
+use Rattle.decompiler.proofs.Members.{gain-by-itself, gain-linked}
+use Rattle.decompiler.proofs.laws.law_of_counted_steps.Goals as goal
 
 pub returns : goal.returns
 returns c = record {

@@ -21,16 +21,16 @@ use Rattle.code_parts.specs.Flows.{place_in}
 use Rattle.code_parts.specs.Graph.{IsCode, IsGraph, IsPart}
 use Rattle.code_parts.specs.Members.{AreMembers, IsMember, Member, callee_at, flow_at}
 use Rattle.claims.specs.LinkExact.{FirstReturnsIn}
-use Rattle.exactness.proofs.GroupOfFunctions.{Function, HasFunctions, HaveGraphs, IsOf}
+use Rattle.decompiler.proofs.GroupOfFunctions.{Function, HasFunctions, HaveGraphs, IsOf}
 use Rattle.code_parts.proofs.FlowCode.{is-code, stands}
 use Rattle.code_parts.proofs.FlowEntry.{last-is, whole-is}
 use Rattle.code_parts.proofs.FlowGraph.{is-graph}
 use Rattle.code_parts.proofs.FlowMade.{uncalled-of}
 use Rattle.code_parts.proofs.FlowOrder.{there-at}
-use Rattle.exactness.specs.Functions.{UsedBy}
+use Rattle.decompiler.specs.Functions.{UsedBy}
 use Rattle.claims.specs.Turns.{RunsBack}
-use Rattle.exactness.proofs.Counts.{Returning}
-use Rattle.exactness.proofs.Family.{linked-gains, own-gains}
+use Rattle.decompiler.proofs.Counts.{Returning}
+use Rattle.decompiler.proofs.Family.{linked-gains, own-gains}
 
 abbrev function_at : Member → Function
 function_at m = record { flow = flow_at m; entry = m.graph.entry }

@@ -10,14 +10,14 @@ use Rattle.code_parts.specs.declared.part.Part.{Part}
 use Rattle.code_parts.specs.declared.part.Part.TheVariants.{Loop, Rest}
 use Rattle.code_parts.specs.Bodies.{Flow, size, VariableMap, Action, Straight, Fork, Return, Enter, return_arm, action, fresh, start, current, with_pc, own, first, rest_targets, targets, rest_from, index_of, end_of, arms_over, last_at, rest_arms, end_at, action_body, body_at, rest_body, part_body}
 use Rattle.code_parts.specs.declared.callee.Callee.{Callee}
-use Rattle.exactness.proofs.Returns.{Comes, split}
-use Rattle.exactness.proofs.StateVariables.{Stands, stands-fresh, stands-start, stands-returned, returned-values}
-use Rattle.exactness.proofs.BodyLemmas.{after_steps, AllHold, needs_passed, ending-steps, arm-over, is-found, found-at, contains-at}
+use Rattle.decompiler.proofs.Returns.{Comes, split}
+use Rattle.decompiler.proofs.StateVariables.{Stands, stands-fresh, stands-start, stands-returned, returned-values}
+use Rattle.decompiler.proofs.BodyLemmas.{after_steps, AllHold, needs_passed, ending-steps, arm-over, is-found, found-at, contains-at}
 use Rattle.tailrec_lang.specs.Registers.{AreRegistersFrom}
 use Rattle.code_parts.specs.Graph.{IsPart, IsPlaced, IsGraph}
 use Rattle.code_parts.proofs.Edges.{Leads, end-some, leads-calling}
 use Rattle.code_parts.proofs.Edges.{calls-row}
-use Rattle.exactness.proofs.Graphs.{return-calling}
+use Rattle.decompiler.proofs.ReturnRows.{return-calling}
 
 -- results with the returned address in front
 abbrev pub with_address : ℕ → Arguments → Arguments

@@ -1,8 +1,8 @@
 use Rattle.claims.specs.Exact.{FirstReturns}
 use Rattle.code_parts.specs.Flows.{alone, flow_of, group_of}
-use Rattle.exactness.proofs.Counts.{exact-of}
-use Rattle.exactness.proofs.GroupOfParts.{flow-gains}
-use Rattle.exactness.proofs.laws.law_of_functions.Goals as goal
+use Rattle.decompiler.proofs.Counts.{exact-of}
+use Rattle.decompiler.proofs.GroupOfParts.{flow-gains}
+use Rattle.decompiler.proofs.laws.law_of_functions.Goals as goal
 
 pub returns : goal.returns
 returns c file e g f parts name ranges graph forest bytes have order within =

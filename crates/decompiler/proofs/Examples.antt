@@ -34,10 +34,10 @@ use Rattle.code_parts.specs.Bodies.{Flow, part_def}
 use Rattle.code_parts.specs.Graph.{IsAlone, has_edge, IsEdge, IsPart, IsPlaced, IsGraph, StandsAt, IsCode}
 use Rattle.claims.specs.Headline.{Starts}
 use Rattle.claims.specs.Exact.{FirstReturns, Exact}
-use Rattle.exactness.specs.Parts.{HasParts, LeavesAs, Meets}
+use Rattle.decompiler.specs.Parts.{HasParts, LeavesAs, Meets}
 use Rattle.claims.specs.Turns.{CountsSteps}
-use Rattle.exactness.proofs.Counts.{counts-of, exact-of}
-use Rattle.exactness.proofs.Runs.{gains, law-of-part}
+use Rattle.decompiler.proofs.Counts.{counts-of, exact-of}
+use Rattle.decompiler.proofs.Runs.{gains, law-of-part}
 
 abbrev instructions : ℕ → Instr
 instructions n = slice_index_or (instr.Op Add 10 10 11 ∷ instr.OpImm Add 11 11 (neg_ℤ (pos 1)) ∷ instr.Branch Ne 11 0 (neg_ℤ (pos 8)) ∷ instr.Jalr 0 1 (pos 0) ∷ []) n instr.Ecall

@@ -1,10 +1,10 @@
 use Rattle.std.proofs.Common.{◌∷◌, []}
 use Rattle.claims.specs.LinkExact.{FirstReturnsIn}
-use Rattle.exactness.specs.Functions.{UsedBy}
+use Rattle.decompiler.specs.Functions.{UsedBy}
 use Rattle.claims.specs.Turns.{RunsBack}
-use Rattle.exactness.proofs.Counts.{exact-of}
-use Rattle.exactness.proofs.Members.{gain-by-itself, gain-linked}
-use Rattle.exactness.proofs.laws.law_of_links.Goals as goal
+use Rattle.decompiler.proofs.Counts.{exact-of}
+use Rattle.decompiler.proofs.Members.{gain-by-itself, gain-linked}
+use Rattle.decompiler.proofs.laws.law_of_links.Goals as goal
 
 pub returns : goal.returns
 returns c = record {
