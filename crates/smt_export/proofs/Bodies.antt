@@ -22,7 +22,7 @@ use Rattle.smt_terms.specs.Expression.{Expr, exprs, apply, bound, is_atom, ite}
 use Rattle.smt_terms.proofs.Unused.{bound-value}
 use Rattle.smt_terms.specs.Operators.{Value, Bits, Truth, choose, same, unsorted}
 use Rattle.smt_terms.specs.Meaning.{Functions, Variables, bind, value, values, applied, atom_value, literal_of}
-use Rattle.smt_operations.specs.Memory.{IsMemoryOf}
+use Rattle.smt_terms.specs.Memory.{IsMemoryOf}
 use Rattle.smt_export.specs.declared.told.Told.{Told}
 use Rattle.smt_export.specs.declared.told.Told.TheVariants.{Ok, ExitNumber, Pc, WordAt, MemAt, DomAt}
 use Rattle.smt_export.specs.Told.{word_name, mem_name, dom_name, fun_name, words_from}
@@ -30,7 +30,7 @@ use Rattle.smt_export.specs.Terms.{word_expr, mem_expr, dom_expr, cond_expr}
 use Rattle.smt_export.specs.Bodies.{with_condition, conjunction, exit_number, mem_args, args, applied_to, called, word_or, mem_or, dom_or, left_by, call_results, let_words, let_mems, body_expr, arms_expr}
 use Rattle.smt_export.specs.Telling.{AreMems, AreArrays, AreArgumentValues, IsToldOf}
 use Rattle.smt_export.specs.inner.Following.{room, arm_room, EachCall, EachArmCall, IsPc, TellsExit, TellsEnding, IsExported}
-use Rattle.smt_operations.specs.Knowing.{Knows}
+use Rattle.smt_terms.specs.Knowing.{Knows}
 use Rattle.smt_export.specs.inner.Telling.{Tells}
 use Rattle.smt_export.proofs.Joins.{atom-is, falsity-is, branch-value}
 use Rattle.smt_export.proofs.Terms.{word_expr-is, mem_expr-is, cond_expr-is, known, word-is}

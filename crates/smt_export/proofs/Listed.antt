@@ -4,7 +4,7 @@ use Rattle.std.specs.List.{Contains}
 use Rattle.std.proofs.lemmas.List.Elements.{Contains-append_left, Contains-append_right}
 use Rattle.tailrec_lang.specs.Tree.{DefTree, GroupTree}
 use Rattle.smt_terms.specs.Meaning.{FunTree}
-use Rattle.smt_operations.specs.Functions.{helpers}
+use Rattle.smt_terms.specs.Functions.{helpers}
 use Rattle.smt_export.specs.declared.told.Told.{Told}
 use Rattle.smt_export.specs.Told.{all_told}
 use Rattle.smt_export.specs.Telling.{HasFuns}

@@ -16,7 +16,7 @@ use Rattle.word_terms.specs.Environment.{Environment, with_word, with_mem}
 use Rattle.rv_words.specs.Bytes.{Bytes}
 use Rattle.smt_terms.specs.Operators.{Value, Bits}
 use Rattle.smt_terms.specs.Meaning.{Variables, bind}
-use Rattle.smt_operations.specs.Memory.{IsMemoryOf}
+use Rattle.smt_terms.specs.Memory.{IsMemoryOf}
 use Rattle.smt_export.specs.inner.Telling.{Tells}
 
 unless : (b : Bool) → (b ≡ true → ⊥) → b ≡ false

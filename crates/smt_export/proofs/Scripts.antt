@@ -18,8 +18,8 @@ use Rattle.smt_export.specs.declared.told.Told.{Told}
 use Rattle.smt_export.specs.declared.told.Told.TheVariants.{Ok, ExitNumber, Pc, WordAt, MemAt, DomAt}
 use Rattle.smt_export.specs.Told.{word_name, mem_name, dom_name, fun_name, word_params, mem_params, params, all_told}
 use Rattle.smt_export.specs.Bodies.{call_results, body_expr}
-use Rattle.smt_operations.specs.Functions.{helpers}
-use Rattle.smt_operations.specs.Knowing.{Knows}
+use Rattle.smt_terms.specs.Functions.{helpers}
+use Rattle.smt_terms.specs.Knowing.{Knows}
 use Rattle.smt_export.specs.Scripts.{def_fun, def_funs, funs_from, script}
 use Rattle.smt_export.specs.Telling.{AreMems, AreArrays, AreArgumentValues, IsToldOf}
 use Rattle.smt_export.specs.inner.Following.{IsPc, TellsEnding, IsExported, EachCall, EachArmCall, room}
@@ -29,7 +29,7 @@ use Rattle.smt_export.proofs.Names.{tells-word, tells-mem, names_differ, told_na
 use Rattle.smt_export.proofs.Membership.{Member, AllSmall, all_told-small, told-small, member-told}
 use Rattle.smt_export.proofs.Bodies.{body_tells, told_same, ending_map, other_domain}
 use Rattle.group_terms.proofs.Ranges.{in_range-with, in_range-none}
-use Rattle.smt_operations.proofs.HelperValues.{helpers-know}
+use Rattle.smt_terms.proofs.HelperValues.{helpers-know}
 
 -- ---- parameters
 

@@ -23,7 +23,7 @@ use Rattle.smt_export.specs.Told.{word_name, mem_name, dom_name, fun_name, words
 use Rattle.smt_export.specs.Terms.{word_expr, mem_expr, dom_expr, cond_expr, falsity}
 use Rattle.smt_export.specs.Bodies.{default, with_condition, conjunction, exit_number, mem_args, args, applied_to, called, word_or, mem_or, dom_or, left_by, call_results, let_words, let_mems, body_expr, arms_expr}
 use Rattle.smt_export.specs.inner.Following.{room, arm_room, EachCall, EachArmCall}
-use Rattle.smt_operations.specs.Knowing.{word_sort, bytes_sort, domain_sort, KnowsRules}
+use Rattle.smt_terms.specs.Knowing.{word_sort, bytes_sort, domain_sort, KnowsRules}
 use Rattle.smt_export.specs.inner.Sorting.{InSort, AreRules, HasRules}
 use Rattle.smt_export.proofs.SortedJoins.{ite-sort, falsity-sort, branch-sort}
 use Rattle.smt_export.proofs.SortedTerms.{atom-sort, word-sort, number-sort, true-sort, sorted-less, sorted-bytes, sorted-word, sorted-mem, word_expr-sort, mem_expr-sort, dom_expr-sort, cond_expr-sort, words-fit, mems-fit}

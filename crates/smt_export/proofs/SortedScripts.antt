@@ -12,15 +12,15 @@ use Rattle.smt_terms.specs.Sorts.{Rules, Sorts, rule_of, with_rule, rules_after,
 use Rattle.smt_export.specs.declared.told.Told.{Told}
 use Rattle.smt_export.specs.declared.told.Told.TheVariants.{Ok, ExitNumber, Pc, WordAt, MemAt, DomAt}
 use Rattle.smt_export.specs.Told.{fun_name, word_name, mem_name, dom_name, word_params, mem_params, params, told_sort, all_told}
-use Rattle.smt_operations.specs.Functions.{helpers}
-use Rattle.smt_operations.specs.Knowing.{KnowsRules}
+use Rattle.smt_terms.specs.Functions.{helpers}
+use Rattle.smt_terms.specs.Knowing.{KnowsRules}
 use Rattle.smt_export.specs.Scripts.{def_fun, def_funs, funs_from, script}
 use Rattle.smt_export.specs.inner.Exported.{IsClosed, HasRange}
 use Rattle.smt_export.specs.inner.Sorting.{InSort, AreRules, HasRules}
 use Rattle.smt_export.proofs.Names.{names_differ, told_names_differ, told_names_same, IsSmall, same_bytes}
 use Rattle.smt_export.proofs.Membership.{Member, AllSmall, all_told-small, told-small, member-told, key, AreKeyed, all_told-keyed}
 use Rattle.smt_export.proofs.Scripts.{calls_each, taken}
-use Rattle.smt_operations.proofs.SortedHelpers.{helpers-are, base_rules, helpers-know_rules}
+use Rattle.smt_terms.proofs.SortedHelpers.{helpers-are, base_rules, helpers-know_rules}
 use Rattle.smt_export.proofs.SortedTerms.{sorted-word, sorted-mem}
 use Rattle.smt_export.proofs.SortedJoins.{rules-none, rules-more, rules-all}
 use Rattle.smt_export.specs.Telling.{IsToldOf}

@@ -17,8 +17,8 @@ use Rattle.smt_terms.specs.Meaning.{bind}
 use Rattle.smt_terms.specs.Sorts.{Rules, Sorts, atom_sort, literal_sort_of, applied_sort, sort_of, sorts_of, sorts_fit}
 use Rattle.smt_terms.proofs.Numerals.{numeral-decimal}
 use Rattle.smt_export.specs.Told.{word_name, mem_name, dom_name, word_params, mem_params}
-use Rattle.smt_operations.specs.Functions.{op_name, ext_name, load_name, store_name, inside_name}
-use Rattle.smt_operations.specs.Knowing.{word_sort, bytes_sort, domain_sort, KnowsRules}
+use Rattle.smt_terms.specs.Functions.{op_name, ext_name, load_name, store_name, inside_name}
+use Rattle.smt_terms.specs.Knowing.{word_sort, bytes_sort, domain_sort, KnowsRules}
 use Rattle.smt_export.specs.Terms.{word_expr, mem_expr, dom_expr, compare_expr, cond_expr}
 use Rattle.smt_export.specs.Bodies.{mem_args, exit_number}
 use Rattle.smt_export.specs.inner.Sorting.{InSort}

@@ -13,13 +13,13 @@ use Rattle.word_terms.proofs.Ranges.{word_in_range}
 use Rattle.smt_terms.specs.Expression.{Expr, Atom, word}
 use Rattle.smt_terms.specs.Operators.{Value, Bits, Truth, of_truth, of_two, same, less_signed}
 use Rattle.smt_terms.specs.Meaning.{Functions, Variables, value, applied, atom_value, literal_of}
-use Rattle.smt_operations.specs.Memory.{IsMemoryOf}
+use Rattle.smt_terms.specs.Memory.{IsMemoryOf}
 use Rattle.smt_export.specs.Told.{word_name, mem_name, dom_name}
-use Rattle.smt_operations.specs.Functions.{op_name, ext_name, load_name, store_name, inside_name}
-use Rattle.smt_operations.specs.Knowing.{Knows}
+use Rattle.smt_terms.specs.Functions.{op_name, ext_name, load_name, store_name, inside_name}
+use Rattle.smt_terms.specs.Knowing.{Knows}
 use Rattle.smt_export.specs.Terms.{word_expr, mem_expr, dom_expr, compare_expr, cond_expr}
 use Rattle.smt_export.specs.inner.Telling.{Tells}
-use Rattle.smt_operations.proofs.Signs.{less}
+use Rattle.smt_terms.proofs.Signs.{less}
 
 pub word-is : (fs : Functions) (s : Variables) (n : ℕ) → n < 2 ^ 64 → value fs s (word n) ≡ Bits 64 n
 word-is fs s n h = (λ j. literal_of (numeral-decimal n h j) (Some 64)) ∙ (let small : n % 2 ^ 64 ≡ n = omega arith in ap (Bits 64) small)

@@ -4,7 +4,7 @@ use Rattle.tailrec_lang.specs.Tree.{DefTree, GroupTree}
 use Rattle.smt_terms.specs.Meaning.{FunTree}
 use Rattle.smt_export.specs.declared.told.Told.{Told}
 use Rattle.smt_export.specs.Told.{fun_name, params, told_sort, all_told}
-use Rattle.smt_operations.specs.Functions.{helpers}
+use Rattle.smt_terms.specs.Functions.{helpers}
 use Rattle.smt_export.specs.Bodies.{body_expr}
 
 -- ---- definitions

@@ -7,7 +7,7 @@ use Rattle.tailrec_lang.specs.Eval.{Arguments, Outcome, Done, SideFalse, Turns, 
 use Rattle.smt_terms.specs.Operators.{Value, Bits, Truth}
 use Rattle.smt_terms.specs.Meaning.{FunTree, applied, functions_after, no_names}
 use Rattle.group_terms.specs.Range.{ArgumentsInRange}
-use Rattle.smt_operations.specs.Memory.{IsMemoryOf}
+use Rattle.smt_terms.specs.Memory.{IsMemoryOf}
 use Rattle.smt_export.specs.declared.told.Told.{Told}
 use Rattle.smt_export.specs.declared.told.Told.TheVariants.{Ok, ExitNumber, Pc, WordAt, MemAt, DomAt}
 use Rattle.smt_export.specs.Told.{fun_name, params, told_sort, words_from}

@@ -5,7 +5,7 @@ use Rattle.rv_words.specs.declared.comparison.Cmp.{Cmp}
 use Rattle.rv_words.specs.declared.comparison.Cmp.TheVariants.{Eq, Ne, Lt, Ge, Ltu, Geu}
 use Rattle.word_terms.specs.Tree.{WordTree, Const, Var, Bin, Extend, Load, MemTree, MemVar, Store, CondTree, Compare, Neg, Inside}
 use Rattle.smt_terms.specs.Expression.{Expr, Atom, apply, word}
-use Rattle.smt_operations.specs.Functions.{op_name, ext_name, load_name, store_name, inside_name}
+use Rattle.smt_terms.specs.Functions.{op_name, ext_name, load_name, store_name, inside_name}
 use Rattle.smt_export.specs.Told.{word_name, mem_name, dom_name}
 
 -- where a memory's bytes are present: a store doesn't change that

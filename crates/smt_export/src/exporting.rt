@@ -20,8 +20,7 @@ use crate::room::has_room;
 use crate::told::{Told, fun_name, told_sort};
 use group_terms::has_range;
 use rv_words::{List, NoMemory};
-use smt_operations::helpers;
-use smt_terms::{Fun, Script};
+use smt_terms::{Fun, Script, helpers};
 use std::alloc::Global;
 use tailrec_lang::{Def, Group, def_at};
 

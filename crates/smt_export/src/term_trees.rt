@@ -6,8 +6,10 @@ ghost use Rattle.smt_export.specs.Terms.{compare_expr, cond_expr, dom_expr, mem_
 ghost use Rattle.smt_terms.specs.Views.{expr};
 
 use rv_words::{Cmp, NoMemory};
-use smt_operations::{name_of_ext, name_of_inside, name_of_load, name_of_op, name_of_store};
-use smt_terms::{Tree, numbered, one, three, two, word};
+use smt_terms::{
+    Tree, name_of_ext, name_of_inside, name_of_load, name_of_op, name_of_store, numbered, one,
+    three, two, word,
+};
 use std::alloc::Global;
 use word_terms::{Cond, Mem, Word};
 

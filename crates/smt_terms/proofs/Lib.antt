@@ -3,3 +3,10 @@ pub mod Symbols
 pub mod Numerals
 pub mod Occurrences
 pub mod Printing
+pub mod Signs
+pub mod OperationValues
+pub mod AccessValues
+pub mod HelperValues
+pub mod SortedHelpers
+pub mod Steps
+pub mod Listing

@@ -5,3 +5,9 @@ pub mod Meaning
 pub mod Sorts
 pub mod Views
 pub mod Text
+pub mod Helpers
+pub mod Accesses
+pub mod Memory
+pub mod Functions
+pub mod Knowing
+pub mod inner

@@ -8,7 +8,7 @@ use Rattle.smt_terms.specs.Sorts.{Rules, Sorts, rule_of, sorts_fit}
 use Rattle.smt_export.specs.declared.told.Told.{Told}
 use Rattle.smt_export.specs.Told.{word_name, mem_name, dom_name, fun_name, params, told_sort}
 use Rattle.smt_export.specs.Telling.{IsToldOf}
-use Rattle.smt_operations.specs.Knowing.{word_sort, bytes_sort, domain_sort}
+use Rattle.smt_terms.specs.Knowing.{word_sort, bytes_sort, domain_sort}
 
 -- so many words and memories have their sorts, and other names have none
 pub record InSort (n m : ℕ) (s : Sorts) : Type 0 where

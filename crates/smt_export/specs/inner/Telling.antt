@@ -3,7 +3,7 @@ use Rattle.std.specs.Prelude.{◌≡◌, ℕ, ◌<◌, codes, Some, None}
 use Rattle.word_terms.specs.Environment.{Environment}
 use Rattle.smt_terms.specs.Operators.{Value, Bits}
 use Rattle.smt_terms.specs.Meaning.{Variables}
-use Rattle.smt_operations.specs.Memory.{IsMemoryOf}
+use Rattle.smt_terms.specs.Memory.{IsMemoryOf}
 use Rattle.smt_export.specs.declared.told.Told.{Told}
 use Rattle.smt_export.specs.Told.{word_name, mem_name, dom_name, fun_name}
 

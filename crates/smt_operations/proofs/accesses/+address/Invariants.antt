@@ -1,4 +1,0 @@
-use Rattle.smt_operations.proofs.accesses.+address.Given as goal
-
-abbrev pub decreases-address : goal.decreases-address
-decreases-address l = l.k

@@ -1,4 +1,0 @@
-use Rattle.smt_operations.proofs.accesses.+all_present.Given as goal
-
-abbrev pub decreases-all_present : goal.decreases-all_present
-decreases-all_present l = l.n

@@ -1,4 +1,0 @@
-use Rattle.smt_operations.proofs.accesses.+loaded_bytes.Given as goal
-
-abbrev pub decreases-loaded_bytes : goal.decreases-loaded_bytes
-decreases-loaded_bytes l = l.n

@@ -1,4 +1,0 @@
-use Rattle.smt_operations.proofs.accesses.+shifted.Given as goal
-
-abbrev pub decreases-shifted : goal.decreases-shifted
-decreases-shifted l = l.k
