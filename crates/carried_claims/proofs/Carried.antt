@@ -10,8 +10,8 @@ use Rattle.tailrec_lang.specs.Tree.{DefTree, GroupTree, exits_at, listed_def}
 use Rattle.tailrec_lang.specs.Eval.{Arguments, eval}
 use Rattle.group_terms.specs.Range.{ArgumentsInRange}
 use Rattle.term_laws.specs.declared.step.Rw.{Rw}
-use Rattle.def_laws.specs.Evaluation.{EvaluateAlike}
-use Rattle.def_laws.specs.Rewriting.{AreRewritingSteps, IsRewritingStep, with_def_term, with_defs}
+use Rattle.fun_laws.specs.Evaluation.{EvaluateAlike}
+use Rattle.fun_laws.specs.Rewriting.{AreRewritingSteps, IsRewritingStep, with_def_term, with_defs}
 use Rattle.claims.specs.Headline.{Region, Starts, Ends, IsRight, cut, entry_at, held_in}
 use Rattle.claims.specs.Exact.{Gives}
 use Rattle.carried_claims.specs.Within.{IsExactIn, IsRightIn}

@@ -6,7 +6,7 @@ use Rattle.word_terms.specs.Tree.{Var}
 use Rattle.word_terms.specs.Value.{word_value}
 use Rattle.tailrec_lang.specs.Eval.{Arguments, Outcome, Done, with_arguments}
 use Rattle.group_terms.specs.Range.{ArgumentsInRange}
-use Rattle.def_laws.specs.Evaluation.{EvaluateAlike}
+use Rattle.fun_laws.specs.Evaluation.{EvaluateAlike}
 use Rattle.claim_examples.specs.Words.{and_one, and_two, backwards, forwards, leaves_word, word_group}
 
 abbrev first_word : Outcome → ℕ

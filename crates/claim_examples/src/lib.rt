@@ -14,7 +14,7 @@ ghost use Rattle.claims.specs.Exact.{Exact, FirstReturns, Gives};
 ghost use Rattle.claims.specs.LinkExact.{FirstReturnsIn, LinkExact, ReturnsBack};
 ghost use Rattle.claims.specs.Turns.{CountsSteps, InFirstMemory};
 ghost use Rattle.stack_offsets.specs.SplitExact.{SplitExact, UsesSplit};
-ghost use Rattle.def_laws.specs.Evaluation.{EvaluateAlike};
+ghost use Rattle.fun_laws.specs.Evaluation.{EvaluateAlike};
 ghost use Rattle.smt_export.specs.Telling.{HasFuns, TellsEval};
 ghost use Rattle.claim_examples.specs.Sum.{narrow, needing, sum, sum_file, sum_results, sum_start, wrong};
 ghost use Rattle.claim_examples.specs.Store.{at_place, keeps, quiet, store_file, store_start, stores};

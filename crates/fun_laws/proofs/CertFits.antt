@@ -12,11 +12,11 @@ use Rattle.group_text.specs.Version.{version_of}
 use Rattle.group_text.specs.Limits.{IsValues, IsStep, IsBody, AreArms, IsDef, IsGroupIn, nesting_limit, def_exit_limit, def_limit}
 use Rattle.term_laws.specs.declared.step.Rw.{Rw}
 use Rattle.term_laws.specs.Laws.{Term, OfWord, OfMem, OfCond, laws, law_at, Law}
-use Rattle.def_laws.specs.Rewriting.{step_term, count, value_at, term_at, arm_term_at, with_step_term, with_word_term, with_mem_term, with_cond, with_value, with_term, with_arm_term, with_def_term, IsRewritingStep, AreRewritingSteps}
+use Rattle.fun_laws.specs.Rewriting.{step_term, count, value_at, term_at, arm_term_at, with_step_term, with_word_term, with_mem_term, with_cond, with_value, with_term, with_arm_term, with_def_term, IsRewritingStep, AreRewritingSteps}
 use Rattle.fun_laws.specs.Limits.{IsCert, IsCertStep}
 use Rattle.fun_laws.specs.Spelling.{cert_tree}
-use Rattle.def_laws.specs.declared.cert.Cert.{Cert}
-use Rattle.def_laws.specs.Certs.{IsCertOf}
+use Rattle.fun_laws.specs.declared.cert.Cert.{Cert}
+use Rattle.fun_laws.specs.Certs.{IsCertOf}
 use Rattle.fun_laws.specs.inner.Numbers.{HaveNumbers}
 use Rattle.fun_laws.proofs.TermFits.{FitsTerm, place_fits, rewrites_fit}
 

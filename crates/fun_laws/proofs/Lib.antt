@@ -5,3 +5,14 @@ pub mod FewerLines
 pub mod Whole
 pub mod TermFits
 pub mod CertFits
+pub mod Bodies
+pub mod Evaluation
+pub mod Steps
+pub mod OneResult
+pub mod Parts
+pub mod Skeletons
+pub mod Takes
+pub mod StepLemmas
+pub mod PartSteps
+pub mod SimpleBodies
+pub mod Ends

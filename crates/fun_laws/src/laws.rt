@@ -7,12 +7,12 @@ ghost use Rattle.tailrec_lang.specs.Tree.{GroupTree};
 ghost use Rattle.group_text.specs.declared.version.Version.{Version as Known};
 ghost use Rattle.group_text.specs.Limits.{IsGroupIn};
 ghost use Rattle.group_text.specs.Version.{version_of};
-ghost use Rattle.def_laws.specs.Certs.{IsCertOf};
+ghost use Rattle.fun_laws.specs.Certs.{IsCertOf};
 ghost use Rattle.fun_laws.specs.Limits.{IsCert, cert_texts};
 ghost use Rattle.fun_laws.specs.Spelling.{CertTree, cert_text, cert_tree};
 ghost use Rattle.fun_laws.specs.inner.Numbers.{HaveNumbers};
 
-use def_laws::Cert;
+use crate::cert::Cert;
 use term_laws::Rw;
 
 /// A certificate that is accepted of a group that has a text in some version has one too: no law

@@ -9,7 +9,7 @@ ghost use Rattle.mc_text.specs.declared.token.Before.TheVariants.{Start};
 ghost use Rattle.fun_laws.specs.Limits.{IsCert, IsCertStep};
 ghost use Rattle.fun_laws.specs.Spelling.{cert_text, cert_tokens, cert_tree, place_text, cert_step_tokens, cert_title_tokens};
 
-use def_laws::Cert;
+use crate::cert::Cert;
 use group_text::{put_bare_line, put_defs, put_group_lines};
 use mc_text::Pen;
 use rv_words::{Bytes, List, NoMemory};

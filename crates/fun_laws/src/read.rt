@@ -7,8 +7,8 @@ ghost use Rattle.mc_text.specs.Fault.{IsBadAt};
 ghost use Rattle.fun_laws.specs.Limits.{IsCert, IsCertIn, cert_texts_in};
 ghost use Rattle.fun_laws.specs.Spelling.{cert_text, cert_tree};
 
+use crate::cert::Cert;
 use crate::rows::read_rows;
-use def_laws::Cert;
 use group_text::{ReadError, Rows, TextFault, TextRows, Version, is_end, whole_lines};
 use std::alloc::Global;
 

@@ -9,8 +9,8 @@ ghost use Rattle.fun_laws.specs.Spelling.{cert_tree};
 ghost use Rattle.fun_laws.specs.inner.Reading.{behind_head, behind_name, behind_old, behind_title, cert_at, defs_to_end, is_step, result_at, step_at};
 ghost use Rattle.fun_laws.specs.inner.Views.{behind_view, defs_view, name_view, rest_view};
 
+use crate::cert::Cert;
 use crate::step_rows::{NameRow, StepRow, TitleRow};
-use def_laws::Cert;
 use group_text::{
     Head, MarkRow, ReadError, Rows, Version, next_row, read_defs, read_head, row_begins,
 };

@@ -6,8 +6,8 @@ use Rattle.elf_image.specs.Image.{code_of_file}
 use Rattle.rv_machine.specs.State.{IsState}
 use Rattle.tailrec_lang.specs.Tree.{DefTree, GroupTree}
 use Rattle.term_laws.specs.declared.step.Rw.{Rw}
-use Rattle.def_laws.specs.Evaluation.{EvaluateAlike}
-use Rattle.def_laws.specs.Rewriting.{AreRewritingSteps, with_defs}
+use Rattle.fun_laws.specs.Evaluation.{EvaluateAlike}
+use Rattle.fun_laws.specs.Rewriting.{AreRewritingSteps, with_defs}
 use Rattle.claims.specs.Headline.{IsRight}
 use Rattle.claims.specs.Exact.{Exact, FirstReturns}
 use Rattle.claims.specs.LinkExact.{FirstReturnsIn, LinkExact}

@@ -47,9 +47,9 @@ use Rattle.mcdec_answers.specs.declared.answer.SmtAnswer.TheVariants as sm
 use Rattle.mcdec_answers.specs.declared.answer.MigrateAnswer.{MigrateAnswer}
 use Rattle.smt_export.specs.Reach.{IsLeastLoop, IsLoopFree}
 use Rattle.mcdec_commands.specs.SmtAnswer.{SmtGives}
-use Rattle.def_laws.specs.Rewriting.{AreRewritingSteps}
-use Rattle.def_laws.specs.Certs.{IsFirstBad}
-use Rattle.def_laws.proofs.OneResult.{no_result, one_first_bad, one_result}
+use Rattle.fun_laws.specs.Rewriting.{AreRewritingSteps}
+use Rattle.fun_laws.specs.Certs.{IsFirstBad}
+use Rattle.fun_laws.proofs.OneResult.{no_result, one_first_bad, one_result}
 use Rattle.fun_laws.specs.Limits.{cert_texts}
 use Rattle.fun_laws.specs.Spelling.{CertTree}
 use Rattle.fun_laws.proofs.Whole.{certs-once}

@@ -8,11 +8,11 @@ use Rattle.mc_text.specs.Fault.{IsBadAt, newlines}
 use Rattle.mc_text.proofs.FaultLine.{newlines-append}
 use Rattle.tailrec_lang.specs.declared.group.Group.{Group}
 use Rattle.tailrec_lang.specs.Tree.{GroupTree, def_tree, group_tree}
-use Rattle.def_laws.specs.declared.cert.Cert.{Cert}
-use Rattle.def_laws.specs.declared.judge.CertFault.TheVariants as fault
-use Rattle.def_laws.specs.Certs.{IsCertFault, IsCertOf, IsFirstBad}
-use Rattle.def_laws.specs.Rewriting.{AreRewritingSteps}
-use Rattle.def_laws.specs.Evaluation.{EvaluateAlike}
+use Rattle.fun_laws.specs.declared.cert.Cert.{Cert}
+use Rattle.fun_laws.specs.declared.judge.CertFault.TheVariants as fault
+use Rattle.fun_laws.specs.Certs.{IsCertFault, IsCertOf, IsFirstBad}
+use Rattle.fun_laws.specs.Rewriting.{AreRewritingSteps}
+use Rattle.fun_laws.specs.Evaluation.{EvaluateAlike}
 use Rattle.fun_laws.specs.Limits.{cert_texts}
 use Rattle.fun_laws.specs.Spelling.{cert_tree}
 use Rattle.mcdec_answers.specs.declared.answer.Answer.{Answer}

@@ -3,10 +3,10 @@ use Rattle.std.proofs.Common.{◌≡◌, ℕ, ◌≤◌, List, length, map, Opti
 use Rattle.std.specs.Prelude.{IfSome}
 use Rattle.mc_shelf.specs.Shelf.{Contents}
 use Rattle.tailrec_lang.specs.Tree.{GroupTree, def_tree}
-use Rattle.def_laws.specs.declared.cert.Cert.{Cert}
-use Rattle.def_laws.specs.Certs.{IsCertOf}
-use Rattle.def_laws.specs.Evaluation.{EvaluateAlike}
-use Rattle.def_laws.specs.Rewriting.{AreSimple}
+use Rattle.fun_laws.specs.declared.cert.Cert.{Cert}
+use Rattle.fun_laws.specs.Certs.{IsCertOf}
+use Rattle.fun_laws.specs.Evaluation.{EvaluateAlike}
+use Rattle.fun_laws.specs.Rewriting.{AreSimple}
 use Rattle.fun_laws.specs.Limits.{IsCert}
 use Rattle.fun_laws.specs.Spelling.{cert_text, cert_tree}
 use Rattle.mcdec_answers.specs.declared.answer.Answer.{Answer}

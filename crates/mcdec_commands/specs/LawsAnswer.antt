@@ -17,9 +17,9 @@ use Rattle.stack_offsets.specs.SplitExact.{SplitExact, UsesSplit}
 use Rattle.carried_claims.specs.Within.{IsExactIn, IsRightIn}
 use Rattle.group_text.specs.Spelling.{group_tokens}
 use Rattle.text_versions.specs.Versions.{IsTextListing}
-use Rattle.def_laws.specs.Rewriting.{AreRewritingSteps, with_defs}
-use Rattle.def_laws.specs.Certs.{IsFirstBad}
-use Rattle.def_laws.specs.Evaluation.{EvaluateAlike}
+use Rattle.fun_laws.specs.Rewriting.{AreRewritingSteps, with_defs}
+use Rattle.fun_laws.specs.Certs.{IsFirstBad}
+use Rattle.fun_laws.specs.Evaluation.{EvaluateAlike}
 use Rattle.fun_laws.specs.Limits.{IsCert, cert_texts}
 use Rattle.fun_laws.specs.Spelling.{CertTree, cert_text}
 use Rattle.mcdec_answers.specs.declared.answer.LawsAnswer.{LawsAnswer}

@@ -2,8 +2,8 @@
 use Rattle.std.specs.Prelude.{◌≡◌, ℕ, ◌<◌, ◌≤◌, List, length, Some, None}
 use Rattle.mc_shelf.specs.Shelf.{Contents}
 use Rattle.tailrec_lang.specs.Tree.{GroupTree}
-use Rattle.def_laws.specs.Rewriting.{AreRewritingSteps, AreSimple}
-use Rattle.def_laws.specs.Evaluation.{EvaluateAlike}
+use Rattle.fun_laws.specs.Rewriting.{AreRewritingSteps, AreSimple}
+use Rattle.fun_laws.specs.Evaluation.{EvaluateAlike}
 use Rattle.fun_laws.specs.Limits.{IsCert}
 use Rattle.fun_laws.specs.Spelling.{CertTree, cert_text}
 use Rattle.mcdec_answers.specs.declared.answer.Answer.{Answer}

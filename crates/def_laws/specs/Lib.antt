@@ -1,4 +1,0 @@
-pub mod Rewriting
-pub mod Evaluation
-pub mod Certs
-pub mod inner

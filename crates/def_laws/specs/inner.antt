@@ -1,5 +1,0 @@
-pub mod Alike
-pub mod Apart
-pub mod Taken
-pub mod Stops
-pub mod Simplified
