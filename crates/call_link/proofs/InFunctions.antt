@@ -21,13 +21,13 @@ use Rattle.code_parts.specs.Flows.{HaveCode, context_of}
 use Rattle.code_parts.specs.Members.{Member, defs_of, flow_at}
 use Rattle.code_parts.proofs.CodeOf.{have_bytes}
 use Rattle.code_parts.proofs.Lists.{length-map}
-use Rattle.linked_group.specs.Groups.{AreSomeFunctions, IsLinkedGroup, functions_of, group_in, is_register_of, load_or_store, member_in, members_of, context_in}
-use Rattle.linked_group.specs.declared.group.LinkedFunction.{LinkedFunction}
-use Rattle.linked_group.specs.declared.group.LinkedGroup.{LinkedGroup}
-use Rattle.linked_group.proofs.Joining.{reached-by}
-use Rattle.linked_group.proofs.Lists.{any-of, in-map, out-map}
-use Rattle.linked_group.proofs.Contexts.{order-of, reached-of, linked-of, within-code}
-use Rattle.linked_group.proofs.Together.{entered-at-entry, members-are}
+use Rattle.code_parts.specs.Groups.{AreSomeFunctions, IsLinkedGroup, functions_of, group_in, is_register_of, load_or_store, member_in, members_of, context_in}
+use Rattle.code_parts.specs.declared.linked.LinkedFunction.{LinkedFunction}
+use Rattle.code_parts.specs.declared.linked.LinkedGroup.{LinkedGroup}
+use Rattle.code_parts.proofs.Joining.{reached-by}
+use Rattle.code_parts.proofs.ListItems.{any-of, in-map, out-map}
+use Rattle.code_parts.proofs.LinkedContexts.{order-of, reached-of, linked-of, within-code}
+use Rattle.code_parts.proofs.Together.{entered-at-entry, members-are}
 use Rattle.decompiler.specs.Listing.{AreDefsOf, AreEntries, HasDefs, HasMemory, HaveDefs, IsCodeIn, IsInstructionIn, IsMemberOf, IsUsedIn, Lists, UsesMemoryIn}
 use Rattle.decompiler.proofs.CodeListed.{access_back, access_there, byte_back, byte_there, memory_by, registers_by, used_back, used_there}
 use Rattle.decompiler.proofs.Definitions.{parts-once}

@@ -22,12 +22,12 @@ use Rattle.code_parts.specs.Bodies.{part_def}
 use Rattle.code_parts.specs.declared.part.Part.{Part}
 use Rattle.code_parts.specs.Graph.{IsSmall}
 use Rattle.code_parts.specs.Members.{Member, defs_of, flow_at}
-use Rattle.linked_group.specs.Groups.{IsLinkedGroup, functions_of, group_in, load_or_store, member_in, members_of}
-use Rattle.linked_group.specs.declared.group.LinkedFunction.{LinkedFunction}
-use Rattle.linked_group.specs.declared.group.LinkedGroup.{LinkedGroup}
-use Rattle.linked_group.proofs.Lists.{out-map}
-use Rattle.linked_group.proofs.Contexts.{small-of, within-code}
-use Rattle.linked_group.proofs.Together.{defs-few, defs-some, formed, members-are}
+use Rattle.code_parts.specs.Groups.{IsLinkedGroup, functions_of, group_in, load_or_store, member_in, members_of}
+use Rattle.code_parts.specs.declared.linked.LinkedFunction.{LinkedFunction}
+use Rattle.code_parts.specs.declared.linked.LinkedGroup.{LinkedGroup}
+use Rattle.code_parts.proofs.ListItems.{out-map}
+use Rattle.code_parts.proofs.LinkedContexts.{small-of, within-code}
+use Rattle.code_parts.proofs.Together.{defs-few, defs-some, formed, members-are}
 use Rattle.path_walk.specs.declared.item.Item.{Item}
 use Rattle.path_walk.specs.Closed.{AreClosedIn}
 use Rattle.path_walk.specs.Linked.{IsLinkedItem}

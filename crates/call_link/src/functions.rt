@@ -10,9 +10,9 @@ ghost use Rattle.decompiler.specs.Refusals.{IsNoProofBy};
 ghost use Rattle.call_link.specs.Listing.{IsLinkedItemFor, linked_form};
 
 use call_graph::{CallGraphFault, linked_functions};
+use code_parts::linked_group;
 use decompiler::{LinkFault, MakeItems, items_of, law_of_bytes};
 use elf_image::{Image, law_of_image};
-use linked_group::linked_group;
 use path_walk::{Item, Proof, linked_item};
 use rv_words::{List, Text};
 use std::alloc::Global;

@@ -21,3 +21,10 @@ pub mod PartOrder
 pub mod Registers
 pub mod Contexts
 pub mod WellFormed
+pub mod Calls
+pub mod Joining
+pub mod ListItems
+pub mod Placing
+pub mod LinkedContexts
+pub mod Room
+pub mod Together

@@ -7,4 +7,5 @@ pub mod Regions
 pub mod Kept
 pub mod Low
 pub mod VariableMaps
+pub mod Groups
 pub mod inner

@@ -1,3 +1,5 @@
 pub mod Ends
 pub mod Ranks
 pub mod Words
+pub mod Joining
+pub mod Placing

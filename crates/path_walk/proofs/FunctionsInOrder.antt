@@ -35,9 +35,9 @@ use Rattle.code_parts.proofs.FlowOrder.{calls-below, part-at, there-at}
 use Rattle.code_parts.proofs.Lists.{length-map, slice-mapped}
 use Rattle.checker.specs.Further.{further_of}
 use Rattle.path_walk.specs.Item.{IsWalkedIn}
-use Rattle.linked_group.specs.Groups.{IsLinkedGroup, functions_of, group_in, load_or_store, member_in, members_of, context_in}
-use Rattle.linked_group.specs.declared.group.LinkedFunction.{LinkedFunction}
-use Rattle.linked_group.specs.declared.group.LinkedGroup.{LinkedGroup}
+use Rattle.code_parts.specs.Groups.{IsLinkedGroup, functions_of, group_in, load_or_store, member_in, members_of, context_in}
+use Rattle.code_parts.specs.declared.linked.LinkedFunction.{LinkedFunction}
+use Rattle.code_parts.specs.declared.linked.LinkedGroup.{LinkedGroup}
 use Rattle.path_walk.specs.Closed.{AreClosedIn}
 use Rattle.path_walk.specs.inner.LinkedWalks.{AreWalkedOf, AreWalkedTo, CanAllBeWalked, CanBeWalked, StandFrom}
 use Rattle.path_walk.specs.inner.Walks.{CloseFirst}

@@ -7,8 +7,8 @@ use Rattle.group_text.specs.Version.{version_of}
 use Rattle.proof_text.specs.Line.{line_tree}
 use Rattle.proof_text.specs.LineLimits.{IsLineIn}
 use Rattle.call_graph.specs.Functions.{size_of}
-use Rattle.linked_group.specs.Groups.{functions_of, group_in}
-use Rattle.linked_group.specs.declared.group.LinkedGroup.{LinkedGroup}
+use Rattle.code_parts.specs.Groups.{functions_of, group_in}
+use Rattle.code_parts.specs.declared.linked.LinkedGroup.{LinkedGroup}
 use Rattle.path_walk.specs.declared.item.Item.{Item}
 use Rattle.path_walk.specs.Closed.{AreClosedIn}
 

@@ -11,7 +11,7 @@ ghost use Rattle.code_parts.specs.Bodies as spec;
 ghost use Rattle.code_parts.specs.Graph.{IsPart};
 ghost use Rattle.code_parts.specs.Kept.{flow_in};
 ghost use Rattle.code_parts.specs.Members.{flow_at};
-ghost use Rattle.linked_group.specs.Groups.{AreSomeFunctions, IsLinkedGroup, functions_of, member_in};
+ghost use Rattle.code_parts.specs.Groups.{AreSomeFunctions, IsLinkedGroup, functions_of, member_in};
 ghost use Rattle.path_walk.specs.Forgotten.{KeepsNone};
 ghost use Rattle.path_walk.specs.Further.{IsVersionFor};
 ghost use Rattle.path_walk.specs.Linked.{IsLinkedItem};
@@ -19,9 +19,8 @@ ghost use Rattle.path_walk.specs.inner.LinkedWalks.{AreWalkedTo, CanAllBeWalked,
 
 use crate::item::Item;
 use crate::one_part::walk_in;
-use code_parts::{Flow, Part};
+use code_parts::{Flow, LinkedFunction, LinkedGroup, Part, law_of_groups};
 use group_text::Version;
-use linked_group::{LinkedFunction, LinkedGroup, law_of_groups};
 use proof_text::Line;
 use rv_words::{List, NoMemory, Text};
 use std::alloc::Global;

@@ -16,9 +16,9 @@ use Rattle.code_parts.specs.Flows.{HaveInstructions, IsSetFor, context_of}
 use Rattle.code_parts.specs.Kept.{IsReachedBy}
 use Rattle.code_parts.specs.Graph.{CallsBelow, IsFor, IsPart}
 use Rattle.code_parts.specs.Members.{AreMembers, CallsBefore, Member, defs_of, flow_at}
-use Rattle.linked_group.specs.Groups.{group_in, member_in, members_of, context_in}
-use Rattle.linked_group.specs.declared.group.LinkedFunction.{LinkedFunction}
-use Rattle.linked_group.specs.declared.group.LinkedGroup.{LinkedGroup}
+use Rattle.code_parts.specs.Groups.{group_in, member_in, members_of, context_in}
+use Rattle.code_parts.specs.declared.linked.LinkedFunction.{LinkedFunction}
+use Rattle.code_parts.specs.declared.linked.LinkedGroup.{LinkedGroup}
 use Rattle.checker.specs.Further.{further_of}
 use Rattle.path_walk.specs.inner.Walks.{CloseFirst}
 

@@ -3,7 +3,7 @@ use Rattle.rv_words.specs.Bytes.{AreBytes, Bytes}
 use Rattle.elf_image.specs.Image.{code_in}
 use Rattle.call_graph.specs.Functions.{AreFunctions}
 use Rattle.call_graph.specs.declared.function.Function.{Function}
-use Rattle.linked_group.specs.Groups.{functions_of}
+use Rattle.code_parts.specs.Groups.{functions_of}
 use Rattle.call_link.proofs.Items.{linked-is}
 use Rattle.call_link.proofs.functions.linked_at.Goals as goal
 

@@ -7,7 +7,7 @@ use Rattle.group_text.specs.declared.version.Version.TheVariants.{Three}
 use Rattle.proof_text.specs.Line.{LineTree, line_tree}
 use Rattle.checker.specs.Instance.{after_lines}
 use Rattle.call_graph.specs.Functions.{size_of}
-use Rattle.linked_group.specs.declared.group.LinkedFunction.{LinkedFunction}
+use Rattle.code_parts.specs.declared.linked.LinkedFunction.{LinkedFunction}
 use Rattle.path_walk.specs.Closed.{AreClosedIn}
 use Rattle.path_walk.specs.inner.LinkedWalks.{AreWalkedOf}
 use Rattle.path_walk.proofs.FunctionsInOrder.{all-walked, can-be, group-same, none_of, one-of, walked_of_more}

@@ -10,7 +10,7 @@ use Rattle.code_parts.specs.Flows.{IsSetFor, ContextOf, context_of}
 use Rattle.code_parts.specs.Graph.{IsPart}
 use Rattle.code_parts.specs.Kept.{flow_in}
 use Rattle.code_parts.specs.Members.{flow_at}
-use Rattle.linked_group.specs.Groups.{member_in}
+use Rattle.code_parts.specs.Groups.{member_in}
 use Rattle.path_walk.specs.Further.{IsVersionFor}
 use Rattle.path_walk.specs.inner.LinkedWalks.{AreWalkedTo}
 use Rattle.path_walk.proofs.FunctionsInOrder.{flow-same}

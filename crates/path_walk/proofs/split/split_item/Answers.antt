@@ -11,7 +11,7 @@ use Rattle.code_parts.specs.Flows.{AreCodeOf, HaveInstructions, IsSetFor, Contex
 use Rattle.code_parts.specs.Graph.{IsCode, IsPart}
 use Rattle.code_parts.specs.Kept.{flow_in}
 use Rattle.code_parts.specs.Order.{AreParts}
-use Rattle.linked_group.proofs.Contexts.{in-context}
+use Rattle.code_parts.proofs.LinkedContexts.{in-context}
 use Rattle.path_walk.specs.Further.{IsVersionFor}
 use Rattle.path_walk.specs.Split.{IsSplitItem, split}
 use Rattle.path_walk.specs.inner.Walks.{IsItemOver}

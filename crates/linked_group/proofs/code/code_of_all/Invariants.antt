@@ -1,6 +1,0 @@
-use Rattle.std.proofs.Common.{take}
-use Rattle.linked_group.specs.Groups.{AreCodeOfAll}
-use Rattle.linked_group.proofs.code.code_of_all.Given as goal
-
-abbrev pub invariant-loop-function : goal.invariant-loop-function
-invariant-loop-function l = AreCodeOfAll (take l.function-index l.functions) l.code.ranges

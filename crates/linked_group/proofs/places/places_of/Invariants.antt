@@ -1,6 +1,0 @@
-use Rattle.std.proofs.Common.{take}
-use Rattle.linked_group.specs.inner.Placing.{ArePlaced}
-use Rattle.linked_group.proofs.places.places_of.Given as goal
-
-abbrev pub invariant-loop-function : goal.invariant-loop-function
-invariant-loop-function l = ArePlaced (take l.function-index l.functions) l.placed_functions l.callees l.base

@@ -1,6 +1,0 @@
-use Rattle.std.proofs.Common.{◌≡◌, drop}
-use Rattle.linked_group.specs.Groups.{is_register_of}
-use Rattle.linked_group.proofs.uses.is_used_in.Given as goal
-
-abbrev pub invariant-loop-function : goal.invariant-loop-function
-invariant-loop-function l = is_register_of l.functions l.r ≡ is_register_of (drop l.function-index l.functions) l.r

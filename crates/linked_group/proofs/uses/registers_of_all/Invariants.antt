@@ -1,6 +1,0 @@
-use Rattle.rv_decode.proofs.RegisterLemmas.{HaveFound}
-use Rattle.linked_group.specs.Groups.{is_register_of}
-use Rattle.linked_group.proofs.uses.registers_of_all.Given as goal
-
-abbrev pub invariant-loop-r : goal.invariant-loop-r
-invariant-loop-r l = HaveFound (is_register_of l.functions) l.regs l.r
