@@ -2,7 +2,7 @@
 use Rattle.std.specs.Prelude.{ℕ, List, true}
 use Rattle.rv_words.specs.Bytes.{Bytes}
 use Rattle.group_text.specs.Version.{version_3}
-use Rattle.further_rules.specs.Rules.{IsSteered}
+use Rattle.frame_compose.specs.Rules.{IsSteered}
 use Rattle.claims.specs.LinkExact.{LinkExact}
 use Rattle.claims.specs.Turns.{InFirstMemory, RunsBack}
 use Rattle.flow_graph.specs.Flow.{Next}

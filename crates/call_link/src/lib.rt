@@ -12,8 +12,8 @@ mod text;
 
 pub use call_graph::LinkWhy;
 pub use decompiler::LinkFault;
+pub use frame_compose::steer;
 pub use functions::{Linked, link};
-pub use further_rules::steer;
 pub use laws::law_of_linked_items;
 pub use text::linked_bytes;
 pub use text_versions::{Steer, check_linked};

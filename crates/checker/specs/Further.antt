@@ -1,7 +1,7 @@
 -- The further rule of a text, by its version.
 use Rattle.group_text.specs.declared.version.Version.{Version as Known}
 use Rattle.group_text.specs.declared.version.Version.TheVariants.{One, Two, Three, Four}
-use Rattle.further_rules.specs.Rules.{IsExchanged, IsSteered}
+use Rattle.frame_compose.specs.Rules.{IsExchanged, IsSteered}
 use Rattle.checker.specs.Instance.{FurtherRule, no_rule}
 
 -- version 1 has none, version 3 has `steer`, and version 4 `exchange`

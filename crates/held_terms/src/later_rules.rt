@@ -8,7 +8,7 @@ ghost use Rattle.word_terms.specs.Tree.{Compare};
 ghost use Rattle.term_arena.specs.Arena.{Extends, IsWordAt, mem_of, word_of};
 ghost use Rattle.triple_kernel.specs.Tree.{So};
 ghost use Rattle.triple_kernel.specs.Rules.{AreAmong};
-ghost use Rattle.further_rules.specs.Rules.{AreExchanged, IsExchanged, IsSteered};
+ghost use Rattle.frame_compose.specs.Rules.{AreExchanged, IsExchanged, IsSteered};
 ghost use Rattle.held_terms.specs.Held.{AreFactsAt, AreMemsAt, IsHeldAt, fact_of, register_of, side_of, triple_of};
 
 use crate::facts::Facts;

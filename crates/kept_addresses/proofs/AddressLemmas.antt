@@ -22,12 +22,11 @@ use Rattle.triple_kernel.proofs.SwapLemmas.{swap_mem-value}
 use Rattle.instr_axioms.specs.Axiom.{memory_if, axiom_of, own, variables_for}
 use Rattle.instr_axioms.specs.Terms.{Names, has_memory, memory_after}
 use Rattle.instr_axioms.proofs.AxiomLemmas.{axiom-parts}
-use Rattle.frame_compose.specs.Rules.{rest_after, IsFramed, IsExtended, IsComposed}
+use Rattle.frame_compose.specs.Rules.{rest_after, IsFramed, IsExtended, IsComposed, AreExchanged, IsExchanged}
 use Rattle.frame_compose.proofs.ComposeLemmas.{among-first, among-rest, among-missing}
 use Rattle.loop_rule.specs.Tree.{LeafTree}
 use Rattle.loop_rule.specs.Leaves.{at_entry, parameters, leaves_of}
 use Rattle.loop_rule.specs.Rule.{LeadsTo, IsLedTo, IsClosedBy}
-use Rattle.further_rules.specs.Rules.{AreExchanged, IsExchanged}
 use Rattle.kept_addresses.specs.Addresses.{ExitsHave, HaveSameAddresses, KeepsAddresses, memories_of}
 use Rattle.kept_addresses.proofs.FactLemmas.{holds-put_in, mems-put_in, stated-holds}
 use Rattle.kept_addresses.proofs.Lines.{RulesKeep}

@@ -9,8 +9,8 @@ use Rattle.proof_text.specs.Line.{ProofTree}
 use Rattle.proof_text.specs.Proofs.{AreProofsIn, groups_of}
 use Rattle.proof_text.proofs.ProofTexts.{proofs-once}
 use Rattle.proof_text.proofs.WholeLaws.{lines_known}
-use Rattle.further_rules.specs.Rules.{IsExchanged}
-use Rattle.further_rules.proofs.ExchangeLemmas.{valid_exchanged}
+use Rattle.frame_compose.specs.Rules.{IsExchanged}
+use Rattle.frame_compose.proofs.ExchangeLemmas.{valid_exchanged}
 use Rattle.checker.specs.declared.verdict.Verdict.{Verdict}
 use Rattle.checker.specs.declared.verdict.Verdict.TheVariants as verdict
 use Rattle.checker.specs.Instance.{no_lines}

@@ -9,7 +9,7 @@ ghost use Rattle.tailrec_lang.specs.Registers.{AreRegistersFrom};
 ghost use Rattle.rv_words.specs.Ranges.{range_bytes};
 ghost use Rattle.sep_assert.specs.Code.{IsWithin};
 ghost use Rattle.loop_rule.specs.Rule.{IsClosed};
-ghost use Rattle.further_rules.specs.Rules.{IsExchanged};
+ghost use Rattle.frame_compose.specs.Rules.{IsExchanged};
 ghost use Rattle.proof_text.specs.Line.{LineTree};
 ghost use Rattle.claims.specs.Headline.{IsRight};
 ghost use Rattle.checker.specs.Instance.{History, InstanceBy, after_line};

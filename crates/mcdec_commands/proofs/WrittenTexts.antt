@@ -7,7 +7,7 @@ use Rattle.group_text.specs.declared.version.Version.TheVariants.{One, Three, Fo
 use Rattle.group_text.specs.Version.{Version, version_1, version_3, version_4, version_of}
 use Rattle.proof_text.specs.Line.{ProofTree}
 use Rattle.proof_text.specs.Proofs.{AreProofsIn, text_of_proofs_in}
-use Rattle.further_rules.specs.Rules.{IsExchanged, IsSteered}
+use Rattle.frame_compose.specs.Rules.{IsExchanged, IsSteered}
 use Rattle.checker.specs.Instance.{FurtherRule, no_rule}
 use Rattle.checker.specs.Further.{further_of}
 use Rattle.checker.specs.Accepts.{AcceptsBy}

@@ -17,7 +17,7 @@ use Rattle.triple_kernel.specs.Tree.{FactTree, WordIs, MemIs, So, TripleTree}
 use Rattle.triple_kernel.specs.Rules.{IsInst, IsWeakened}
 use Rattle.triple_kernel.specs.Swap.{WordsStated, MemsStated, SwapWord, SwapMem, SwapRegister}
 use Rattle.tailrec_lang.specs.Registers.{AreRegistersFrom}
-use Rattle.frame_compose.specs.Rules.{is_listed, listed as those_listed, IsFramed}
+use Rattle.frame_compose.specs.Rules.{is_listed, listed as those_listed, IsFramed, AreExchanged, IsExchanged}
 use Rattle.checker.specs.Instance.{put_for}
 use Rattle.triple_kernel.specs.declared.form.Form.{Form}
 use Rattle.rv_decode.specs.Registers.{is_read, registers_where, sources, destination}
@@ -25,12 +25,10 @@ use Rattle.instr_axioms.specs.Terms.{Names, has_memory, conditions, result, word
 use Rattle.instr_axioms.specs.Axiom.{register_with, memory_if, triple_over, is_own, own, variables_for, own_triple, triple_if, axiom_of, word_code}
 use Rattle.instr_axioms.proofs.Instances.{Becomes, is_inst}
 use Rattle.code_parts.specs.Bodies.{Flow, VariableMap, names, is_store, wrote, stored, place_after}
-use Rattle.further_rules.specs.Rules.{AreExchanged, IsExchanged}
 use Rattle.path_walk.specs.Further.{is_crossed}
-use Rattle.path_walk.specs.inner.Acts.{all_mems, mem_after, mem_first, named_own, named_triple, named_wide, new_facts, own_mem, own_mems, own_words, triple_on}
+use Rattle.path_walk.specs.inner.Acts.{all_mems, mem_after, mem_first, named_own, named_triple, named_wide, new_facts, own_mem, own_mems, own_words, triple_on, numbered}
 use Rattle.code_parts.proofs.Lists.{here, later, in_range, is_in, in-true}
 use Rattle.path_walk.proofs.Lists.{smaller-is, listed-place}
-use Rattle.path_walk.specs.inner.Acts.{numbered}
 use Rattle.code_parts.proofs.Registers.{filter-has, filter-rise, or_left, or_right}
 use Rattle.code_parts.proofs.Counts.{store-writes_none}
 

@@ -1,7 +1,7 @@
 -- What is made of a name of a file where the stack is a memory of its own.
 use Rattle.std.specs.Prelude.{◌≡◌, ℕ, List, false}
 use Rattle.group_text.specs.Version.{version_4}
-use Rattle.further_rules.specs.Rules.{IsExchanged}
+use Rattle.frame_compose.specs.Rules.{IsExchanged}
 use Rattle.flow_graph.specs.Flow.{Next}
 use Rattle.flow_graph.specs.Walks.{Reaches}
 use Rattle.stack_offsets.specs.SplitExact.{SplitExact, UsesSplit}

@@ -3,7 +3,7 @@
 
 ghost use Rattle.std.specs.Prelude.{ℕ, List};
 ghost use Rattle.elf_image.specs.Fault.{IsReadable};
-ghost use Rattle.further_rules.specs.Rules.{IsExchanged};
+ghost use Rattle.frame_compose.specs.Rules.{IsExchanged};
 ghost use Rattle.group_text.specs.Version.{version_4};
 ghost use Rattle.proof_text.specs.Proofs.{AreProofsIn};
 ghost use Rattle.checker.specs.Accepts.{AcceptsBy};

@@ -16,8 +16,8 @@ mod functions;
 mod laws;
 mod text;
 
+pub use frame_compose::exchange;
 pub use functions::{WithStack, split};
-pub use further_rules::exchange;
 pub use kept_addresses::{law_of_addresses, law_of_regions};
 pub use laws::law_of_split_items;
 pub use text::split_bytes;

@@ -11,8 +11,8 @@ use Rattle.checker.specs.Verdicts.{IsAcceptance}
 use Rattle.checker.specs.declared.verdict.Verdict.{Verdict}
 use Rattle.checker.specs.declared.verdict.Verdict.TheVariants as verdict
 use Rattle.checker.proofs.SoundLemmas.{no_rule-keeps}
-use Rattle.further_rules.specs.Rules.{IsSteered}
-use Rattle.further_rules.proofs.SteerLemmas.{valid_steered}
+use Rattle.frame_compose.specs.Rules.{IsSteered}
+use Rattle.frame_compose.proofs.SteerLemmas.{valid_steered}
 use Rattle.kept_addresses.proofs.CheckLemmas.{accepted-headline as split-headline}
 use Rattle.checker.specs.Further.{further_of}
 use Rattle.proof_v2.specs.AnyText.{ListsIn}

@@ -7,10 +7,10 @@ ghost use Rattle.proof_text.specs.Proofs.{groups_of};
 ghost use Rattle.checker.specs.declared.verdict.Verdict.{Verdict as VerdictOf};
 ghost use Rattle.claims.specs.Headline.{Headline};
 ghost use Rattle.checker.specs.Verdicts.{IsAcceptance, IsTextOfIn, SaysBy};
-ghost use Rattle.further_rules.specs.Rules.{IsSteered};
+ghost use Rattle.frame_compose.specs.Rules.{IsSteered};
 
 use checker::{FurtherRule, Verdict};
-use further_rules::{law_of_steering, steer};
+use frame_compose::{law_of_steering, steer};
 use held_terms::{Held, is_steered};
 use proof_text::Reader;
 use rv_words::NoMemory;

@@ -1,4 +1,4 @@
-use Rattle.further_rules.specs.Rules.{IsExchanged}
+use Rattle.frame_compose.specs.Rules.{IsExchanged}
 use Rattle.kept_addresses.specs.Addresses.{KeepsAddresses}
 use Rattle.kept_addresses.proofs.AddressLemmas.{keeps-exchange}
 use Rattle.kept_addresses.proofs.Lines.{line-has}

@@ -5,7 +5,7 @@ use Rattle.group_text.specs.Version.{version_of}
 use Rattle.proof_text.specs.Pulling.{held_text}
 use Rattle.checker.specs.Instance.{no_rule}
 use Rattle.checker.specs.Verdicts.{SaysBy}
-use Rattle.further_rules.specs.Rules.{IsExchanged, IsSteered}
+use Rattle.frame_compose.specs.Rules.{IsExchanged, IsSteered}
 use Rattle.proof_v2.specs.AnyVerdicts.{SaysIn}
 use Rattle.text_versions.proofs.JudgedVersions.{judged-in}
 use Rattle.text_versions.proofs.check.check_in.Goals as goal

@@ -1,6 +1,6 @@
 use Rattle.std.proofs.Common.{refl, sym}
 use Rattle.group_text.specs.declared.version.Version.TheVariants.{Four}
-use Rattle.further_rules.specs.Rules.{IsExchanged}
+use Rattle.frame_compose.specs.Rules.{IsExchanged}
 use Rattle.checker.proofs.CheckLemmas.{said}
 use Rattle.kept_addresses.proofs.CheckLemmas.{accepted-headline}
 use Rattle.text_versions.proofs.exchanging.check_split.Goals as goal

@@ -1,6 +1,6 @@
 use Rattle.std.proofs.Common.{arith, refl, sym}
 use Rattle.group_text.specs.declared.version.Version.TheVariants.{Three}
-use Rattle.further_rules.specs.Rules.{IsSteered}
+use Rattle.frame_compose.specs.Rules.{IsSteered}
 use Rattle.checker.proofs.CheckLemmas.{headline-said, said}
 use Rattle.text_versions.proofs.steering.check_linked.Goals as goal
 

@@ -4,7 +4,7 @@
 ghost use Rattle.std.specs.Prelude.{◌≡◌, ◌↔◌, IsTrue, IsOk, IfOk, map};
 ghost use Rattle.word_terms.specs.Tree.{mem_tree};
 ghost use Rattle.triple_kernel.specs.Tree.{triple_tree};
-ghost use Rattle.further_rules.specs.Rules.{AreExchanged, IsExchanged};
+ghost use Rattle.frame_compose.specs.Rules.{AreExchanged, IsExchanged};
 
 use sep_assert::{same_code, same_registers};
 use triple_kernel::{NoInstance, Thm, Triple, same_facts};

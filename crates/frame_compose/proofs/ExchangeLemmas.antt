@@ -9,7 +9,7 @@ use Rattle.sep_assert.specs.Part.{◌⊕◌, pc_part, registers_part, mems_part,
 use Rattle.sep_assert.proofs.Unions.{union-comm, union-assoc}
 use Rattle.triple_kernel.specs.Tree.{TripleTree}
 use Rattle.triple_kernel.specs.Valid.{Valid}
-use Rattle.further_rules.specs.Rules.{AreExchanged, IsExchanged}
+use Rattle.frame_compose.specs.Rules.{AreExchanged, IsExchanged}
 
 -- memories in the other order are the same part
 exchanged-part : (e : Environment) (ms ns : List MemTree) → AreExchanged ms ns → mems_part ms e ≡ mems_part ns e

@@ -7,7 +7,7 @@ use Rattle.tailrec_lang.specs.Tree.{GroupTree}
 use Rattle.sep_assert.specs.Part.{◌⊕◌, pc_part, registers_part, mems_part, code_part, part_of}
 use Rattle.triple_kernel.specs.Tree.{So, TripleTree}
 use Rattle.triple_kernel.specs.Valid.{Valid}
-use Rattle.further_rules.specs.Rules.{IsSteered}
+use Rattle.frame_compose.specs.Rules.{IsSteered}
 
 pub valid_steered : (g : GroupTree) (p t : TripleTree) → IsSteered p t → Valid g p → Valid g t
 valid_steered g p t is v = record {

@@ -6,7 +6,7 @@ ghost use Rattle.std.specs.List.{Contains};
 ghost use Rattle.rv_words.specs.declared.comparison.Cmp.TheVariants.{Eq};
 ghost use Rattle.word_terms.specs.Tree.{Compare, word_tree};
 ghost use Rattle.triple_kernel.specs.Tree.{So, fact_tree, triple_tree};
-ghost use Rattle.further_rules.specs.Rules.{IsSteered};
+ghost use Rattle.frame_compose.specs.Rules.{IsSteered};
 
 use rv_words::Cmp;
 use sep_assert::{same_assertion, same_code, same_mems, same_registers};
