@@ -1,2 +1,4 @@
 pub mod Printed
+pub mod Command
+pub mod CommandReading
 pub mod inner

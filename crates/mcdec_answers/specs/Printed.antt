@@ -25,11 +25,11 @@ use Rattle.flow_graph.specs.declared.outside.Outside.TheVariants as outside
 use Rattle.loop_forest.specs.Cycles.{last_of}
 use Rattle.call_graph.specs.declared.fault.LinkWhy.{LinkWhy}
 use Rattle.call_graph.specs.declared.fault.LinkWhy.TheVariants as link
-use Rattle.mcdec_words.specs.Command.{memory_name}
-use Rattle.mcdec_words.specs.declared.command.Memory.{Memory}
-use Rattle.mcdec_words.specs.declared.command.Memory.TheVariants.{First, Second}
-use Rattle.mcdec_words.specs.declared.command.Form.{Form}
-use Rattle.mcdec_words.specs.declared.command.Form.TheVariants.{Alone, Linked, Split}
+use Rattle.mcdec_answers.specs.Command.{memory_name}
+use Rattle.mcdec_answers.specs.declared.command.Memory.{Memory}
+use Rattle.mcdec_answers.specs.declared.command.Memory.TheVariants.{First, Second}
+use Rattle.mcdec_answers.specs.declared.command.Form.{Form}
+use Rattle.mcdec_answers.specs.declared.command.Form.TheVariants.{Alone, Linked, Split}
 use Rattle.mcdec_answers.specs.declared.answer.DecompileAnswer.{DecompileAnswer}
 use Rattle.mcdec_answers.specs.declared.answer.DecompileAnswer.TheVariants as decompile
 use Rattle.mcdec_answers.specs.declared.answer.Listed.{Listed}

@@ -1,9 +1,9 @@
 //! What is answered to a list of words.
 
+use crate::command::Form;
 use call_graph::LinkWhy;
 use checker::Verdict;
 use elf_image::{ElfFault, NameFault};
-use mcdec_words::Form;
 use rv_machine::Stuck;
 use rv_words::{List, Range, Text};
 use self_test::Outcome;

@@ -13,6 +13,7 @@ use crate::answer::{
     Answer, CheckAnswer, DecompileAnswer, EvalAnswer, LawsAnswer, Listed, MigrateAnswer, RunAnswer,
     SelfTestAnswer, Shown, SimplifyAnswer, SmtAnswer,
 };
+use crate::command::{Form, Memory};
 use call_graph::LinkWhy;
 use checker::Verdict;
 use elf_image::{ElfFault, NameFault};
@@ -20,7 +21,6 @@ use flow_graph::Outside;
 use itoa::Buffer;
 use mc_shelf::{Sink, Stop};
 use mc_text::{digit_pair, hex_into};
-use mcdec_words::{Form, Memory};
 use rv_machine::Stuck;
 use rv_words::{List as Items, Range};
 

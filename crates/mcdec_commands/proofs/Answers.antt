@@ -22,9 +22,9 @@ use Rattle.proof_v2.specs.AnyText.{AnyProof, any_lines}
 use Rattle.proof_v2.specs.Titles.{named_version}
 use Rattle.mcdec_answers.specs.declared.answer.EvalAnswer.{EvalAnswer}
 use Rattle.mcdec_answers.specs.declared.answer.EvalAnswer.TheVariants as answer
-use Rattle.mcdec_words.specs.Command.{Arg, Given, value_of, givens, ranges}
-use Rattle.mcdec_words.specs.declared.command.Memory.TheVariants.{First, Second}
-use Rattle.mcdec_words.specs.CommandReading.{Holds, HoldsArgs, value_in}
+use Rattle.mcdec_answers.specs.Command.{Arg, Given, value_of, givens, ranges}
+use Rattle.mcdec_answers.specs.declared.command.Memory.TheVariants.{First, Second}
+use Rattle.mcdec_answers.specs.CommandReading.{Holds, HoldsArgs, value_in}
 use Rattle.mcdec_commands.specs.Memory.{placed, ranges_in}
 use Rattle.mcdec_commands.specs.EvalAnswer.{proof_limit, arguments_given, memories_given, EvalGives}
 use Rattle.mcdec_commands.specs.inner.Search.{Finds, GroupGives, HasText, first_named}

@@ -9,8 +9,8 @@ use Rattle.rv_machine.specs.State.{State}
 use Rattle.rv_machine.specs.Step.{step}
 use Rattle.rv_machine.specs.Run.{run}
 use Rattle.rv_machine.proofs.StepLemmas.{step-present}
-use Rattle.mcdec_words.specs.declared.command.Memory.TheVariants.{First}
-use Rattle.mcdec_words.specs.Command.{Arg, ranges}
+use Rattle.mcdec_answers.specs.declared.command.Memory.TheVariants.{First}
+use Rattle.mcdec_answers.specs.Command.{Arg, ranges}
 use Rattle.mcdec_commands.specs.Memory.{placed}
 use Rattle.mcdec_commands.specs.RunAnswer.{state_given}
 

@@ -19,8 +19,8 @@ use Rattle.mcdec_answers.specs.declared.answer.Answer.TheVariants as answer
 use Rattle.mcdec_answers.specs.declared.answer.LawsAnswer.{LawsAnswer}
 use Rattle.mcdec_answers.specs.declared.answer.LawsAnswer.TheVariants as la
 use Rattle.mcdec_answers.specs.Printed.{IsDelivered, status}
-use Rattle.mcdec_words.specs.Command.{Eval, Run, Check, Decompile, SelfTest, Simplify, Laws, Smt, Migrate}
-use Rattle.mcdec_words.proofs.CommandNames.{named-words, not-a-form, other-name}
+use Rattle.mcdec_answers.specs.Command.{Eval, Run, Check, Decompile, SelfTest, Simplify, Laws, Smt, Migrate}
+use Rattle.mcdec_answers.proofs.CommandNames.{named-words, not-a-form, other-name}
 use Rattle.mcdec_commands.specs.LawsAnswer.{CarriesOver, LawsGives}
 use Rattle.mcdec_commands.specs.Answer.{Gives}
 use Rattle.mcdec_commands.proofs.Exactness.{given-status, same-words}

@@ -8,7 +8,7 @@ use Rattle.proof_text.specs.Proofs.{AreProofsIn, text_of_proofs_in}
 use Rattle.path_walk.specs.declared.item.Item.{Item}
 use Rattle.path_walk.specs.declared.proof.Proof.{Proof}
 use Rattle.decompiler.specs.Listing.{proofs_of}
-use Rattle.mcdec_words.specs.declared.command.Form.{Form}
+use Rattle.mcdec_answers.specs.declared.command.Form.{Form}
 use Rattle.checker.specs.declared.verdict.Verdict.TheVariants as ve
 use Rattle.mcdec_answers.specs.declared.answer.Answer.{Answer}
 use Rattle.mcdec_answers.specs.declared.answer.Answer.TheVariants as answer
@@ -21,7 +21,7 @@ use Rattle.mcdec_answers.specs.declared.answer.LawsAnswer.TheVariants as la
 use Rattle.mcdec_answers.specs.declared.answer.SmtAnswer.TheVariants as sm
 use Rattle.mcdec_answers.specs.declared.answer.MigrateAnswer.TheVariants as mi
 use Rattle.mcdec_answers.specs.declared.answer.Listed.{Listed}
-use Rattle.mcdec_words.specs.Command.{Command, Decompile, Words, output_of}
+use Rattle.mcdec_answers.specs.Command.{Command, Decompile, Words, output_of}
 use Rattle.mcdec_commands.specs.RunAnswer.{IsLoaded}
 use Rattle.mcdec_commands.specs.DecompileAnswer.{AreItemsIn, DecompileGives, IsTextFor, all_listed, listed_of, version_in}
 use Rattle.mcdec_commands.specs.Answer.{Gives}
@@ -30,7 +30,7 @@ use Rattle.mcdec_commands.specs.inner.Decompiling.{FileGives}
 use Rattle.mcdec_commands.specs.inner.Writing.{ToldOrFault}
 use Rattle.mcdec_commands.proofs.Answers.{held-with}
 use Rattle.mcdec_commands.proofs.Leaving.{has-output}
-use Rattle.mcdec_words.proofs.OneCommand.{words-unique}
+use Rattle.mcdec_answers.proofs.OneCommand.{words-unique}
 
 -- ---- the file that it reads
 

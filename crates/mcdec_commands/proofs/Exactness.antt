@@ -26,8 +26,8 @@ use Rattle.mcdec_answers.specs.declared.answer.CheckAnswer.{CheckAnswer}
 use Rattle.mcdec_answers.specs.declared.answer.CheckAnswer.TheVariants as ca
 use Rattle.mcdec_commands.specs.CheckAnswer.{CheckGives, AreRightFiles}
 use Rattle.path_walk.specs.declared.item.Item.{Item}
-use Rattle.mcdec_words.specs.declared.command.Form.{Form}
-use Rattle.mcdec_words.specs.declared.command.Form.TheVariants.{Alone}
+use Rattle.mcdec_answers.specs.declared.command.Form.{Form}
+use Rattle.mcdec_answers.specs.declared.command.Form.TheVariants.{Alone}
 use Rattle.call_graph.specs.declared.fault.LinkWhy.{LinkWhy}
 use Rattle.mcdec_answers.specs.declared.answer.DecompileAnswer.{DecompileAnswer}
 use Rattle.mcdec_answers.specs.declared.answer.DecompileAnswer.TheVariants as de
@@ -56,8 +56,8 @@ use Rattle.fun_laws.proofs.Whole.{certs-once}
 use Rattle.mcdec_commands.specs.Held.{HasFile}
 use Rattle.mcdec_commands.specs.SimplifyAnswer.{SimplifyGives, without_steps}
 use Rattle.mcdec_commands.specs.LawsAnswer.{IsCertText, LawsGives, TextsGive, cert_limit, step_line}
-use Rattle.mcdec_words.specs.CommandReading.{operands_of}
-use Rattle.mcdec_words.specs.Command.{Command, Eval, Run, Check, Decompile, SelfTest, Simplify, Laws, Smt, Migrate, Arg, Words, IsNoCommand}
+use Rattle.mcdec_answers.specs.CommandReading.{operands_of}
+use Rattle.mcdec_answers.specs.Command.{Command, Eval, Run, Check, Decompile, SelfTest, Simplify, Laws, Smt, Migrate, Arg, Words, IsNoCommand}
 use Rattle.elf_image.specs.declared.fault.ElfFault.{ElfFault}
 use Rattle.elf_image.specs.Fault.{IsReadable, fault_of}
 use Rattle.elf_image.specs.declared.symbol.NameFault.{NameFault}
@@ -73,8 +73,8 @@ use Rattle.mcdec_commands.specs.inner.Running.{MachineGives}
 use Rattle.mcdec_commands.specs.inner.Search.{GroupGives, first_named}
 use Rattle.mcdec_commands.specs.Answer.{Gives, IsHindered, Like, determined}
 use Rattle.mcdec_answers.specs.Printed.{IsPrinted, IsDelivered, status}
-use Rattle.mcdec_words.proofs.OneCommand.{words-unique}
-use Rattle.mcdec_words.proofs.CommandNames.{name_of, named-words, not-a-form, other-name}
+use Rattle.mcdec_answers.proofs.OneCommand.{words-unique}
+use Rattle.mcdec_answers.proofs.CommandNames.{name_of, named-words, not-a-form, other-name}
 use Rattle.mc_text.proofs.FaultOnce.{bad-once}
 use Rattle.mcdec_commands.proofs.Groups.{begins-alike, listed-front, listed-once}
 use Rattle.mcdec_commands.proofs.Listed.{groups-fit, groups-left}

@@ -5,7 +5,7 @@ use Rattle.word_terms.specs.Tree.{Var, Bin}
 use Rattle.tailrec_lang.specs.declared.group.Exit.TheVariants.{At}
 use Rattle.tailrec_lang.specs.Tree.{Bind, Do, Leave, GroupTree, listed_def}
 use Rattle.tailrec_lang.specs.Eval.{Done, Turns, eval}
-use Rattle.mcdec_words.specs.Command.{Arg, Value, value_of, givens}
+use Rattle.mcdec_answers.specs.Command.{Arg, Value, value_of, givens}
 use Rattle.mcdec_commands.specs.EvalAnswer.{arguments_given}
 
 -- sum: x10 gets x10 + x11

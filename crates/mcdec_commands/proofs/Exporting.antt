@@ -18,7 +18,7 @@ use Rattle.mcdec_answers.specs.declared.answer.Answer.{Answer}
 use Rattle.mcdec_answers.specs.declared.answer.Answer.TheVariants as answer
 use Rattle.mcdec_answers.specs.declared.answer.SmtAnswer.TheVariants as smt
 use Rattle.mcdec_answers.specs.Printed.{status}
-use Rattle.mcdec_words.specs.Command.{Smt, Words}
+use Rattle.mcdec_answers.specs.Command.{Smt, Words}
 use Rattle.mcdec_commands.specs.EvalAnswer.{IsNamed, proof_limit}
 use Rattle.mcdec_commands.specs.SmtAnswer.{IsScriptFor, SmtGives}
 use Rattle.mcdec_commands.specs.Answer.{Gives}

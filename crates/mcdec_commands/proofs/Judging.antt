@@ -19,7 +19,7 @@ use Rattle.mcdec_answers.specs.declared.answer.Answer.{Answer}
 use Rattle.mcdec_answers.specs.declared.answer.Answer.TheVariants as answer
 use Rattle.mcdec_answers.specs.declared.answer.LawsAnswer.{LawsAnswer}
 use Rattle.mcdec_answers.specs.declared.answer.LawsAnswer.TheVariants as laws
-use Rattle.mcdec_words.specs.Command.{Laws, Words}
+use Rattle.mcdec_answers.specs.Command.{Laws, Words}
 use Rattle.mcdec_commands.specs.declared.search.Refusal.TheVariants as refusal
 use Rattle.mcdec_commands.specs.EvalAnswer.{IsNamed, proof_limit}
 use Rattle.mcdec_commands.specs.LawsAnswer.{IsCertText, LawsGives, TextsGive, cert_limit, step_line}

@@ -8,11 +8,11 @@ use Rattle.mc_shelf.specs.Shelf.{Contents, TellsName}
 use Rattle.mc_shelf.specs.declared.sink.Stop.{Stop}
 use Rattle.mcdec_answers.specs.declared.answer.Answer.{Answer}
 use Rattle.mcdec_answers.specs.Printed.{IsDelivered, IsPrinted, status}
-use Rattle.mcdec_words.specs.Command.{Command, Words, output_of}
+use Rattle.mcdec_answers.specs.Command.{Command, Words, output_of}
 use Rattle.mcdec_commands.specs.Answer.{KeepsNames}
 use Rattle.mcdec_commands.specs.Output.{HoldsAll, HoldsFront, IsOutput, LeavesOut}
 use Rattle.mcdec_commands.specs.inner.Writing.{IsTold, Writes, WritesOut}
-use Rattle.mcdec_words.proofs.OneCommand.{words-unique}
+use Rattle.mcdec_answers.proofs.OneCommand.{words-unique}
 use Rattle.mcdec_answers.proofs.Prints.{told_same, where_told}
 
 pub is-told : (told : Option Contents) (name : List ℕ) → TellsName told name → IsTold told

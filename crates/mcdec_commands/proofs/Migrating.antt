@@ -10,7 +10,7 @@ use Rattle.mcdec_answers.specs.declared.answer.Answer.{Answer}
 use Rattle.mcdec_answers.specs.declared.answer.Answer.TheVariants as answer
 use Rattle.mcdec_answers.specs.declared.answer.MigrateAnswer.TheVariants as migrate
 use Rattle.mcdec_answers.specs.Printed.{status}
-use Rattle.mcdec_words.specs.Command.{Migrate, Words}
+use Rattle.mcdec_answers.specs.Command.{Migrate, Words}
 use Rattle.mcdec_commands.specs.EvalAnswer.{proof_limit}
 use Rattle.mcdec_commands.specs.RunAnswer.{IsLoaded}
 use Rattle.mcdec_commands.specs.MigrateAnswer.{IsMigrationFor, MigrateGives}

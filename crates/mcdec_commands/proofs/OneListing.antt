@@ -36,8 +36,8 @@ use Rattle.call_graph.specs.declared.fault.LinkWhy.{LinkWhy}
 use Rattle.call_graph.specs.declared.fault.LinkWhy.TheVariants as link
 use Rattle.call_graph.proofs.OneCause.{one_cause}
 use Rattle.mcdec_answers.specs.declared.answer.DecompileAnswer.TheVariants as de
-use Rattle.mcdec_words.specs.declared.command.Form.{Form}
-use Rattle.mcdec_words.specs.declared.command.Form.TheVariants.{Alone, Linked, Split}
+use Rattle.mcdec_answers.specs.declared.command.Form.{Form}
+use Rattle.mcdec_answers.specs.declared.command.Form.TheVariants.{Alone, Linked, Split}
 use Rattle.code_parts.specs.Members.{Member}
 use Rattle.mcdec_commands.specs.DecompileAnswer.{IsRefusedIn, all_listed, item_form, listed_of, without_walks}
 use Rattle.mcdec_commands.proofs.Weighing.{AreGiven, AreWeighed, one-total, sizes-once, total}

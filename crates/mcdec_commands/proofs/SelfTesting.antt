@@ -4,12 +4,12 @@ use Rattle.mc_shelf.specs.Shelf.{Contents}
 use Rattle.mcdec_answers.specs.declared.answer.Answer.{Answer}
 use Rattle.mcdec_answers.specs.declared.answer.Answer.TheVariants as answer
 use Rattle.mcdec_answers.specs.declared.answer.SelfTestAnswer.{SelfTestAnswer}
-use Rattle.mcdec_words.specs.declared.command.Form.{Form}
-use Rattle.mcdec_words.specs.Command.{Arg, Check, Decompile, Eval, Laws, Run, SelfTest, Simplify, Smt, Migrate, Words, inputs_of, output_of}
+use Rattle.mcdec_answers.specs.declared.command.Form.{Form}
+use Rattle.mcdec_answers.specs.Command.{Arg, Check, Decompile, Eval, Laws, Run, SelfTest, Simplify, Smt, Migrate, Words, inputs_of, output_of}
 use Rattle.mcdec_commands.specs.SelfTestAnswer.{SelfTestGives}
 use Rattle.mcdec_commands.specs.Answer.{Gives}
 use Rattle.mcdec_commands.specs.inner.SelfTesting.{TestGives}
-use Rattle.mcdec_words.proofs.OneCommand.{words-unique}
+use Rattle.mcdec_answers.proofs.OneCommand.{words-unique}
 
 -- what is answered to the number and the size is what the command comes to
 pub test-gives : (told : Option Contents) (ws : List (List ℕ)) (number size : ℕ) (rose wrote : Type 0) → Words ws (SelfTest number size) → (a : Answer) → TestGives number size a → Gives told ws rose wrote a

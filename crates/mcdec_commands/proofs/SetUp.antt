@@ -23,9 +23,9 @@ use Rattle.rv_machine.specs.declared.running.RunEnd.TheVariants as end
 use Rattle.mcdec_answers.specs.declared.answer.RunAnswer.{RunAnswer}
 use Rattle.mcdec_answers.specs.declared.answer.RunAnswer.TheVariants as answer
 use Rattle.mcdec_answers.specs.declared.answer.Shown.{Shown}
-use Rattle.mcdec_words.specs.declared.command.Memory.TheVariants.{First}
-use Rattle.mcdec_words.specs.Command.{Arg, Given, AreGiven, given_to, value_of, givens, ranges}
-use Rattle.mcdec_words.specs.CommandReading.{Holds, given_in, value_in}
+use Rattle.mcdec_answers.specs.declared.command.Memory.TheVariants.{First}
+use Rattle.mcdec_answers.specs.Command.{Arg, Given, AreGiven, given_to, value_of, givens, ranges}
+use Rattle.mcdec_answers.specs.CommandReading.{Holds, given_in, value_in}
 use Rattle.mcdec_commands.specs.Memory.{placed, held_at}
 use Rattle.decompiler.specs.Names.{StandsFor}
 use Rattle.mcdec_commands.specs.RunAnswer.{answer_at, state_given, elf_limit, RunGives}

@@ -13,7 +13,7 @@ use Rattle.mcdec_answers.specs.declared.answer.Answer.{Answer}
 use Rattle.mcdec_answers.specs.declared.answer.Answer.TheVariants as answer
 use Rattle.mcdec_answers.specs.declared.answer.SimplifyAnswer.TheVariants as simplify
 use Rattle.mcdec_answers.specs.Printed.{status}
-use Rattle.mcdec_words.specs.Command.{Simplify, Words}
+use Rattle.mcdec_answers.specs.Command.{Simplify, Words}
 use Rattle.mcdec_commands.specs.EvalAnswer.{IsNamed, proof_limit}
 use Rattle.mcdec_commands.specs.SimplifyAnswer.{IsCertFor, Simplifies, SimplifyGives}
 use Rattle.mcdec_commands.specs.Answer.{Gives}

@@ -18,8 +18,8 @@ use Rattle.proof_v2.specs.Titles.{named_version}
 use Rattle.text_versions.specs.Versions.{SaysOf}
 use Rattle.path_walk.specs.declared.proof.Proof.{Proof}
 use Rattle.decompiler.specs.Listing.{proofs_of}
-use Rattle.mcdec_words.specs.declared.command.Form.{Form}
-use Rattle.mcdec_words.specs.declared.command.Form.TheVariants.{Alone, Linked, Split}
+use Rattle.mcdec_answers.specs.declared.command.Form.{Form}
+use Rattle.mcdec_answers.specs.declared.command.Form.TheVariants.{Alone, Linked, Split}
 use Rattle.mcdec_answers.specs.declared.answer.Answer.{Answer}
 use Rattle.mcdec_commands.specs.DecompileAnswer.{AreItemsIn, IsTextFor, item_form, version_in}
 

@@ -3,8 +3,8 @@ use Rattle.std.specs.Prelude.{◌≡◌, ◌≢◌, ◌⊎◌, ℕ, List, [], Al
 use Rattle.mc_shelf.specs.Shelf.{Contents, TellsName}
 use Rattle.mcdec_answers.specs.declared.answer.Answer.{Answer}
 use Rattle.mcdec_answers.specs.declared.answer.Answer.TheVariants as answer
-use Rattle.mcdec_words.specs.Command.{Command, Eval, Run, Check, Decompile, SelfTest, Simplify, Laws, Smt, Migrate, Arg, Words, IsNoCommand, inputs_of, output_of}
-use Rattle.mcdec_words.specs.declared.command.Form.{Form}
+use Rattle.mcdec_answers.specs.Command.{Command, Eval, Run, Check, Decompile, SelfTest, Simplify, Laws, Smt, Migrate, Arg, Words, IsNoCommand, inputs_of, output_of}
+use Rattle.mcdec_answers.specs.declared.command.Form.{Form}
 use Rattle.mcdec_commands.specs.Held.{HasFile}
 use Rattle.mcdec_commands.specs.EvalAnswer.{EvalGives}
 use Rattle.mcdec_commands.specs.CheckAnswer.{CheckGives}

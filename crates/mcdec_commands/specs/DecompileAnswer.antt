@@ -6,8 +6,8 @@ use Rattle.flow_graph.specs.declared.outside.Outside.TheVariants.{TwoEntries}
 use Rattle.tailrec_lang.specs.Tree.{group_tree, listed_def}
 use Rattle.group_text.specs.Version.{Version}
 use Rattle.proof_text.specs.Proofs.{text_of_proofs_in}
-use Rattle.mcdec_words.specs.declared.command.Form.{Form}
-use Rattle.mcdec_words.specs.declared.command.Form.TheVariants.{Alone, Linked, Split}
+use Rattle.mcdec_answers.specs.declared.command.Form.{Form}
+use Rattle.mcdec_answers.specs.declared.command.Form.TheVariants.{Alone, Linked, Split}
 use Rattle.call_graph.specs.declared.fault.LinkWhy.{LinkWhy}
 use Rattle.call_graph.specs.declared.fault.LinkWhy.TheVariants as link
 use Rattle.claims.specs.Headline.{entry_at}

@@ -11,8 +11,8 @@ use Rattle.proof_v2.specs.AnyText.{BeginsIn, ListsIn, any_texts}
 use Rattle.proof_v2.specs.Titles.{named_version}
 use Rattle.mcdec_answers.specs.declared.answer.EvalAnswer.{EvalAnswer}
 use Rattle.mcdec_answers.specs.declared.answer.EvalAnswer.TheVariants as answer
-use Rattle.mcdec_words.specs.declared.command.Memory.TheVariants.{First, Second}
-use Rattle.mcdec_words.specs.Command.{Arg, value_of, givens, ranges}
+use Rattle.mcdec_answers.specs.declared.command.Memory.TheVariants.{First, Second}
+use Rattle.mcdec_answers.specs.Command.{Arg, value_of, givens, ranges}
 use Rattle.mcdec_commands.specs.Memory.{placed, shown_at}
 
 -- the most bytes of a proof file that are read

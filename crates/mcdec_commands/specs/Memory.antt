@@ -5,8 +5,8 @@ use Rattle.std.specs.Option.{option_map_or}
 use Rattle.rv_words.specs.Bytes.{Bytes, bytes_from, over}
 use Rattle.rv_words.specs.declared.range.Range.{Range}
 use Rattle.mcdec_answers.specs.declared.answer.Shown.{Shown}
-use Rattle.mcdec_words.specs.declared.command.Memory.TheVariants.{First, Second}
-use Rattle.mcdec_words.specs.Command.{Arg, ranges}
+use Rattle.mcdec_answers.specs.declared.command.Memory.TheVariants.{First, Second}
+use Rattle.mcdec_answers.specs.Command.{Arg, ranges}
 
 -- the ranges' bytes put over those of a memory, one range after the other
 abbrev pub placed : List Range → Bytes → Bytes

@@ -2,7 +2,7 @@
 use Rattle.std.specs.Prelude.{◌≡◌, ◌≢◌, ℕ, List, take, Option, Some, ◌⊎◌}
 use Rattle.mc_shelf.specs.Shelf.{Contents}
 use Rattle.mcdec_answers.specs.declared.answer.Answer.{Answer}
-use Rattle.mcdec_words.specs.Command.{Command, Decompile, Simplify, Smt, Migrate}
+use Rattle.mcdec_answers.specs.Command.{Command, Decompile, Simplify, Smt, Migrate}
 use Rattle.mcdec_commands.specs.DecompileAnswer.{IsTextFor}
 use Rattle.mcdec_commands.specs.SimplifyAnswer.{IsCertFor}
 use Rattle.mcdec_commands.specs.SmtAnswer.{IsScriptFor}

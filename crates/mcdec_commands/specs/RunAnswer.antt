@@ -10,8 +10,8 @@ use Rattle.rv_machine.specs.declared.running.RunEnd.{RunEnd}
 use Rattle.rv_machine.specs.declared.running.RunEnd.TheVariants as end
 use Rattle.mcdec_answers.specs.declared.answer.RunAnswer.{RunAnswer}
 use Rattle.mcdec_answers.specs.declared.answer.RunAnswer.TheVariants as answer
-use Rattle.mcdec_words.specs.declared.command.Memory.TheVariants.{First}
-use Rattle.mcdec_words.specs.Command.{Arg, given_to, value_of, givens, ranges}
+use Rattle.mcdec_answers.specs.declared.command.Memory.TheVariants.{First}
+use Rattle.mcdec_answers.specs.Command.{Arg, given_to, value_of, givens, ranges}
 use Rattle.mcdec_commands.specs.Memory.{placed, shown_at}
 
 -- the most bytes of an ELF file that are read

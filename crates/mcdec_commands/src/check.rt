@@ -5,7 +5,7 @@ ghost use Rattle.mc_shelf.specs.Fault.{Rose};
 ghost use Rattle.mc_shelf.specs.Shelf.{TellsName};
 ghost use Rattle.mcdec_commands.specs.Answer.{Gives};
 ghost use Rattle.elf_image.specs.Image.{image_of};
-ghost use Rattle.mcdec_words.specs.CommandReading.{IsReadCheck};
+ghost use Rattle.mcdec_answers.specs.CommandReading.{IsReadCheck};
 ghost use Rattle.mcdec_commands.specs.inner.Checking.{ImageGives, answer_to};
 ghost use Rattle.mcdec_commands.specs.inner.Loading.{not_loaded};
 ghost use Rattle.mcdec_commands.specs.RunAnswer.{IsLoaded};
@@ -15,8 +15,7 @@ use crate::load::{LoadFault, PROOF_LIMIT, load_image, not_read};
 use checker::{Pulled, Verdict};
 use elf_image::Image;
 use mc_shelf::{MeasureEnd, Shelf, measure};
-use mcdec_answers::{Answer, CheckAnswer};
-use mcdec_words::Check;
+use mcdec_answers::{Answer, Check, CheckAnswer};
 use std::alloc::Global;
 use text_versions::check_file;
 

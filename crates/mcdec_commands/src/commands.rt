@@ -5,7 +5,7 @@ ghost use Rattle.mc_shelf.specs.Fault.{Rose, WhereTold};
 ghost use Rattle.mcdec_commands.specs.Answer.{Gives, IsHindered, KeepsNames, Like, ReadsAreTold};
 ghost use Rattle.mcdec_commands.specs.CheckAnswer.{AreRightFiles};
 ghost use Rattle.mcdec_commands.specs.LawsAnswer.{CarriesOver};
-ghost use Rattle.mcdec_words.specs.Command.{Command as CommandOf, Words, output_of, texts};
+ghost use Rattle.mcdec_answers.specs.Command.{Command as CommandOf, Words, output_of, texts};
 ghost use Rattle.mcdec_commands.specs.Output.{IsOutput, LeavesOut};
 ghost use Rattle.mcdec_answers.specs.Printed.{IsDelivered, IsPrinted, status};
 ghost use Rattle.mcdec_answers.specs.declared.answer.Answer.{Answer as AnswerOf};
@@ -21,8 +21,7 @@ use crate::simplify::answer_simplify;
 use crate::smt::answer_smt;
 use carried_claims::law_of_rewritten_functions;
 use mc_shelf::{Shelf, Sink};
-use mcdec_answers::{Answer, deliver};
-use mcdec_words::{Command, Unread, read_words};
+use mcdec_answers::{Answer, Command, Unread, deliver, read_words};
 use std::alloc::Global;
 
 /// Runs the command that the words are, prints the answer's lines and gives its status.

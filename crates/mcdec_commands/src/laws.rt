@@ -14,7 +14,7 @@ ghost use Rattle.mcdec_commands.specs.Answer.{Gives};
 ghost use Rattle.mcdec_commands.specs.EvalAnswer.{IsNamed, proof_limit};
 ghost use Rattle.mcdec_commands.specs.LawsAnswer.{TextsGive, step_line};
 ghost use Rattle.mcdec_commands.specs.inner.Judging.{CertGives};
-ghost use Rattle.mcdec_words.specs.CommandReading.{IsReadLaws};
+ghost use Rattle.mcdec_answers.specs.CommandReading.{IsReadLaws};
 ghost use Rattle.mcdec_commands.specs.inner.Shelves.{ReadsFiles};
 
 use crate::load::{CERT_LIMIT, PROOF_LIMIT, not_read};
@@ -22,8 +22,7 @@ use crate::search::{Refusal, find_group};
 use fun_laws::{Cert, CertFault, judge_cert, read_cert};
 use group_text::{TextFault, put_group};
 use mc_shelf::{Shelf, read_file};
-use mcdec_answers::{Answer, LawsAnswer};
-use mcdec_words::Laws;
+use mcdec_answers::{Answer, Laws, LawsAnswer};
 use rv_words::{Bytes, List, NoMemory};
 use std::alloc::Global;
 use tailrec_lang::Group;

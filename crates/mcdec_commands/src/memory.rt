@@ -2,7 +2,7 @@
 
 ghost use Rattle.std.specs.Prelude.{◌≡◌, ◌+◌, ◌≤◌, ◌^◌, All, IfOk, None, OnOk, length, map, slice_get};
 ghost use Rattle.std.specs.FinMap.{get};
-ghost use Rattle.mcdec_words.specs.Command.{IsMemory};
+ghost use Rattle.mcdec_answers.specs.Command.{IsMemory};
 ghost use Rattle.mcdec_commands.specs.EvalAnswer.{memories_given};
 ghost use Rattle.mcdec_commands.specs.Memory.{held_at, placed, ranges_in};
 

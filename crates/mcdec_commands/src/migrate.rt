@@ -13,7 +13,7 @@ ghost use Rattle.mcdec_commands.specs.RunAnswer.{IsLoaded};
 ghost use Rattle.mcdec_commands.specs.inner.Loading.{not_loaded};
 ghost use Rattle.mcdec_commands.specs.inner.Migrating.{FileMigrates, refusal_of};
 ghost use Rattle.mcdec_commands.specs.inner.Writing.{WritesOut};
-ghost use Rattle.mcdec_words.specs.CommandReading.{IsReadMigrate};
+ghost use Rattle.mcdec_answers.specs.CommandReading.{IsReadMigrate};
 ghost use Rattle.mcdec_commands.specs.inner.Shelves.{ReadsThenWrites};
 
 use crate::load::{LoadFault, PROOF_LIMIT, load_image, not_read};
@@ -21,8 +21,7 @@ use crate::output::write_answer;
 use checker::Verdict;
 use elf_image::Image;
 use mc_shelf::{Shelf, read_file};
-use mcdec_answers::{Answer, MigrateAnswer};
-use mcdec_words::Migrate;
+use mcdec_answers::{Answer, Migrate, MigrateAnswer};
 use proof_v2::migrate_image;
 use std::alloc::Global;
 

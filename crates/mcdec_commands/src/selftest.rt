@@ -4,8 +4,7 @@ ghost use Rattle.std.specs.Prelude.{◌≡◌, ◌≤◌};
 ghost use Rattle.mcdec_answers.specs.Printed.{status};
 ghost use Rattle.mcdec_commands.specs.inner.SelfTesting.{TestGives};
 
-use mcdec_answers::{Answer, SelfTestAnswer};
-use mcdec_words::SelfTest;
+use mcdec_answers::{Answer, SelfTest, SelfTestAnswer};
 use rv_words::NoMemory;
 use self_test::self_test;
 use std::alloc::Global;

@@ -7,7 +7,7 @@ ghost use Rattle.tailrec_lang.specs.Tree.{group_tree};
 ghost use Rattle.mcdec_commands.specs.Answer.{Gives};
 ghost use Rattle.mcdec_commands.specs.EvalAnswer.{IsNamed, proof_limit};
 ghost use Rattle.mcdec_answers.specs.Printed.{status};
-ghost use Rattle.mcdec_words.specs.CommandReading.{IsReadSimplify};
+ghost use Rattle.mcdec_answers.specs.CommandReading.{IsReadSimplify};
 ghost use Rattle.mcdec_commands.specs.inner.Search.{Finds, HasText};
 ghost use Rattle.mcdec_commands.specs.SimplifyAnswer.{IsCertFor};
 ghost use Rattle.mcdec_commands.specs.inner.Simplifying.{TextGives};
@@ -19,8 +19,7 @@ use crate::output::write_answer;
 use crate::search::{Refusal, find_group};
 use fun_laws::{cert_bytes, law_of_limits, simplify};
 use mc_shelf::{Shelf, read_file};
-use mcdec_answers::{Answer, SimplifyAnswer};
-use mcdec_words::Simplify;
+use mcdec_answers::{Answer, Simplify, SimplifyAnswer};
 use std::alloc::Global;
 use tailrec_lang::Group;
 

@@ -5,7 +5,7 @@ ghost use Rattle.std.specs.Prelude.{◌≡◌, ℕ, List, Some};
 ghost use Rattle.mc_shelf.specs.Shelf.{Contents};
 ghost use Rattle.checker.specs.declared.verdict.Verdict.{Verdict as VerdictOf};
 ghost use Rattle.text_versions.specs.Versions.{SaysOf};
-ghost use Rattle.mcdec_words.specs.declared.command.Form.{Form as FormOf};
+ghost use Rattle.mcdec_answers.specs.declared.command.Form.{Form as FormOf};
 ghost use Rattle.mcdec_answers.specs.declared.answer.Answer.{Answer as AnswerOf};
 ghost use Rattle.mcdec_commands.specs.DecompileAnswer.{IsTextFor};
 

@@ -2,7 +2,7 @@
 use Rattle.std.specs.Prelude.{ℕ, ◌≤◌, List, length}
 use Rattle.tailrec_lang.specs.Tree.{group_tree}
 use Rattle.path_walk.specs.declared.item.Item.{Item}
-use Rattle.mcdec_words.specs.declared.command.Form.{Form}
+use Rattle.mcdec_answers.specs.declared.command.Form.{Form}
 use Rattle.mcdec_answers.specs.declared.answer.Answer.{Answer}
 use Rattle.mcdec_answers.specs.declared.answer.Answer.TheVariants as answer
 use Rattle.decompiler.specs.Refusals.{IsNoProofBy}

@@ -7,7 +7,7 @@ use Rattle.rv_machine.specs.Run.{EndsIn}
 use Rattle.rv_machine.specs.declared.running.RunEnd.{RunEnd}
 use Rattle.mcdec_answers.specs.declared.answer.RunAnswer.{RunAnswer}
 use Rattle.mcdec_answers.specs.declared.answer.Shown.{Shown}
-use Rattle.mcdec_words.specs.Command.{Arg, Given, given_to}
+use Rattle.mcdec_answers.specs.Command.{Arg, Given, given_to}
 use Rattle.mcdec_commands.specs.Memory.{placed}
 use Rattle.mcdec_commands.specs.RunAnswer.{answer_at}
 

@@ -20,7 +20,7 @@ use Rattle.mcdec_commands.specs.declared.search.Refusal.{Refusal}
 use Rattle.mcdec_commands.specs.declared.search.Refusal.TheVariants as refusal
 use Rattle.mcdec_answers.specs.declared.answer.EvalAnswer.{EvalAnswer}
 use Rattle.mcdec_answers.specs.declared.answer.EvalAnswer.TheVariants as answer
-use Rattle.mcdec_words.specs.Command.{Arg}
+use Rattle.mcdec_answers.specs.Command.{Arg}
 use Rattle.mcdec_commands.specs.Memory.{shown_at}
 use Rattle.mcdec_commands.specs.EvalAnswer.{HasBadDef, HasBadLine, IsNamed, arguments_given}
 

@@ -1,5 +1,5 @@
 use Rattle.std.specs.Prelude.{flat_map}
-use Rattle.mcdec_words.specs.declared.command.Memory.TheVariants.{First, Second}
+use Rattle.mcdec_answers.specs.declared.command.Memory.TheVariants.{First, Second}
 use Rattle.mcdec_answers.specs.Printed.{range_line}
 use Rattle.mcdec_answers.proofs.Prints.{prints-exit, prints-then, prints-stopped}
 use Rattle.mcdec_answers.proofs.print.put_memories.Goals as goal

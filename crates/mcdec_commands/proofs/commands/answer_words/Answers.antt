@@ -1,10 +1,9 @@
 use Rattle.std.proofs.Common.{[], arith, refl, rules, subst}
-use Rattle.mcdec_words.specs.Command.{IsNoCommand, texts}
+use Rattle.mcdec_answers.specs.Command.{IsNoCommand, texts, Check, Decompile, Eval, Laws, Migrate, Run, SelfTest, Simplify, Smt}
 use Rattle.mcdec_answers.proofs.Prints.{told_same}
-use Rattle.mcdec_words.specs.CommandReading.{IsRead}
-use Rattle.mcdec_words.specs.declared.command.Command.{Command as Read}
-use Rattle.mcdec_words.specs.Command.{Check, Decompile, Eval, Laws, Migrate, Run, SelfTest, Simplify, Smt}
-use Rattle.mcdec_words.proofs.ArgWords.{eval-ranges, eval-stack, run-ranges}
+use Rattle.mcdec_answers.specs.CommandReading.{IsRead}
+use Rattle.mcdec_answers.specs.declared.command.Command.{Command as Read}
+use Rattle.mcdec_answers.proofs.ArgWords.{eval-ranges, eval-stack, run-ranges}
 use Rattle.mcdec_commands.proofs.Decompiling.{no-write-fault}
 use Rattle.mcdec_commands.proofs.Leaving.{LeavesAll, none-written, others-kept, written-by}
 use Rattle.mcdec_commands.proofs.SelfTesting.{test-gives}

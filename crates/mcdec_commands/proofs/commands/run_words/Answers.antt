@@ -1,5 +1,5 @@
 use Rattle.mcdec_commands.proofs.Exactness.{exact-given, headline-given}
-use Rattle.mcdec_words.specs.Command.{texts}
+use Rattle.mcdec_answers.specs.Command.{texts}
 use Rattle.mcdec_commands.proofs.Leaving.{written-given}
 use Rattle.mcdec_commands.proofs.Carrying.{CarriesClaims, rewritten-given}
 use Rattle.mcdec_commands.proofs.commands.run_words.Goals as goal

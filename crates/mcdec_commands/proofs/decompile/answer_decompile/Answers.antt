@@ -1,5 +1,5 @@
 use Rattle.mc_shelf.specs.Fault.{Rose}
-use Rattle.mcdec_words.specs.Command.{Decompile}
+use Rattle.mcdec_answers.specs.Command.{Decompile}
 use Rattle.mcdec_answers.specs.declared.answer.Answer.TheVariants as answer
 use Rattle.mcdec_answers.specs.declared.answer.DecompileAnswer.TheVariants as de
 use Rattle.mcdec_answers.proofs.Prints.{rose-later}

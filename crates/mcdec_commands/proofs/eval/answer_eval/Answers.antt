@@ -1,6 +1,6 @@
 use Rattle.std.proofs.Common.{subst}
 use Rattle.mc_shelf.specs.Fault.{Rose}
-use Rattle.mcdec_words.specs.Command.{Eval}
+use Rattle.mcdec_answers.specs.Command.{Eval}
 use Rattle.mcdec_answers.specs.declared.answer.Answer.TheVariants as answer
 use Rattle.mcdec_answers.specs.declared.answer.EvalAnswer.TheVariants as ev
 use Rattle.mcdec_commands.specs.Answer.{Gives}

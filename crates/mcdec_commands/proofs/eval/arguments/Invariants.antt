@@ -1,5 +1,5 @@
 use Rattle.std.proofs.Common.{◌≡◌, map, take}
-use Rattle.mcdec_words.specs.CommandReading.{value_in}
+use Rattle.mcdec_answers.specs.CommandReading.{value_in}
 use Rattle.mcdec_commands.proofs.eval.arguments.Given as goal
 
 abbrev pub invariant-loop-register : goal.invariant-loop-register

@@ -3,7 +3,7 @@ use Rattle.std.specs.Prelude.{slice_get}
 use Rattle.std.specs.FinMap.{get}
 use Rattle.tailrec_lang.specs.Tree.{group_tree}
 use Rattle.tailrec_lang.specs.Eval.{outcome_of}
-use Rattle.mcdec_words.specs.CommandReading.{value_in}
+use Rattle.mcdec_answers.specs.CommandReading.{value_in}
 use Rattle.mcdec_commands.specs.Memory.{ranges_in}
 use Rattle.mcdec_commands.specs.EvalAnswer.{memories_given}
 use Rattle.mcdec_commands.proofs.Answers.{last-def, listed-outcome, evaluated}

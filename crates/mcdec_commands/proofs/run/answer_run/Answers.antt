@@ -1,5 +1,5 @@
 use Rattle.mc_shelf.specs.Fault.{Rose}
-use Rattle.mcdec_words.specs.Command.{Run}
+use Rattle.mcdec_answers.specs.Command.{Run}
 use Rattle.mcdec_answers.specs.declared.answer.Answer.TheVariants as answer
 use Rattle.mcdec_answers.specs.declared.answer.RunAnswer.TheVariants as run
 use Rattle.mcdec_commands.specs.Answer.{Gives}

@@ -4,7 +4,7 @@ use Rattle.mcdec_commands.specs.Memory.{held_at}
 use Rattle.elf_image.specs.declared.image.Piece.{Piece}
 use Rattle.elf_image.specs.Image.{bytes_in}
 use Rattle.rv_machine.specs.State.{state_of}
-use Rattle.mcdec_words.specs.Command.{givens}
+use Rattle.mcdec_answers.specs.Command.{givens}
 use Rattle.mcdec_commands.specs.RunAnswer.{state_given}
 use Rattle.mcdec_commands.proofs.SetUp.{begun, met-given, stuck-given, steps-given}
 use Rattle.mcdec_commands.proofs.run.run_image.Goals as goal

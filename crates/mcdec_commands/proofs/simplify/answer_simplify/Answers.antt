@@ -1,6 +1,6 @@
 use Rattle.std.proofs.Common.{subst, Ok, Err}
 use Rattle.mc_shelf.specs.Fault.{Rose}
-use Rattle.mcdec_words.specs.Command.{Simplify}
+use Rattle.mcdec_answers.specs.Command.{Simplify}
 use Rattle.mcdec_answers.specs.declared.answer.Answer.TheVariants as answer
 use Rattle.mcdec_answers.specs.declared.answer.SimplifyAnswer.TheVariants as si
 use Rattle.mcdec_commands.specs.Answer.{Gives}

@@ -1,6 +1,6 @@
 use Rattle.std.proofs.Common.{subst, Ok, Err}
 use Rattle.mc_shelf.specs.Fault.{Rose}
-use Rattle.mcdec_words.specs.Command.{Smt}
+use Rattle.mcdec_answers.specs.Command.{Smt}
 use Rattle.mcdec_answers.specs.declared.answer.Answer.TheVariants as answer
 use Rattle.mcdec_answers.specs.declared.answer.SmtAnswer.TheVariants as sm
 use Rattle.mcdec_commands.specs.Answer.{Gives}

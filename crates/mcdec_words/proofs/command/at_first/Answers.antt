@@ -1,5 +1,0 @@
-use Rattle.mcdec_words.proofs.Givens.{at-first}
-use Rattle.mcdec_words.proofs.command.at_first.Goals as goal
-
-pub returns : goal.returns
-returns c = at-first c.args.mark c.args.text.now c.split_once.result c.split_once.ensures.cases c.requires
