@@ -12,7 +12,7 @@ import sys
 import crates
 
 # The crate of the check that the program runs, and the layers on which it stands not at all.
-CHECK = "text_versions"
+CHECK = "proof_v2"
 APART = ("decompiler", "self-test", "laws", "program", "tests")
 
 

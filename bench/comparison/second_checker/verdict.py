@@ -48,6 +48,7 @@ class Bench:
         """The theorem is no longer there; False where it wasn't."""
         if not self.has(number):
             return False
+        self.facts -= len(self.theorems[number].facts)
         self.theorems[number] = None
         return True
 

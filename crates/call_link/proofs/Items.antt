@@ -9,7 +9,7 @@ use Rattle.group_text.specs.Limits.{IsDef, IsGroupIn, IsName}
 use Rattle.group_text.specs.Version.{version_3}
 use Rattle.proof_text.specs.Line.{LineTree, line_tree}
 use Rattle.frame_compose.specs.Rules.{IsSteered}
-use Rattle.checker.specs.Accepts.{IsAcceptedBy}
+use Rattle.verdicts.specs.Accepts.{IsAcceptedBy}
 use Rattle.claims.specs.Turns.{InFirstMemory, RunsBack}
 use Rattle.decompiler.proofs.Counts.{Returning, counts-of, exact-of}
 use Rattle.decompiler.proofs.Members.{members-gain}

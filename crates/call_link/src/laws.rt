@@ -6,7 +6,7 @@ ghost use Rattle.elf_image.specs.Fault.{IsReadable};
 ghost use Rattle.group_text.specs.Version.{version_3};
 ghost use Rattle.proof_text.specs.Proofs.{AreProofsIn};
 ghost use Rattle.frame_compose.specs.Rules.{IsSteered};
-ghost use Rattle.checker.specs.Accepts.{AcceptsBy};
+ghost use Rattle.verdicts.specs.Accepts.{AcceptsBy};
 ghost use Rattle.decompiler.specs.Listing.{AreItemsBy, proofs_of};
 ghost use Rattle.call_link.specs.Listing.{linked_form};
 ghost use Rattle.path_walk.specs.declared.proof.Proof.{Proof as TheProof};

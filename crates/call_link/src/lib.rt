@@ -3,7 +3,7 @@
 //!
 //! `link(alloc, &image, &names)?` gives the items, or tells the first name whose functions can't be
 //! linked, and why. `linked_bytes` is the text of them, in version 3. `check_linked`, which
-//! text_versions has, judges a text of that version; `steer` is its further rule (`Steer`).
+//! proof_v2 has, judges a text of that version; `steer` is its further rule.
 #![tactic(auto)]
 
 mod functions;
@@ -15,5 +15,5 @@ pub use decompiler::LinkFault;
 pub use frame_compose::steer;
 pub use functions::{Linked, link};
 pub use laws::law_of_linked_items;
+pub use proof_v2::check_linked;
 pub use text::linked_bytes;
-pub use text_versions::{Steer, check_linked};

@@ -1,9 +1,5 @@
-pub mod Instance
-pub mod Further
-pub mod Sound
-pub mod Accepts
 pub mod Bench
-pub mod Verdicts
-pub mod LineRules
-pub mod Pulled
+pub mod LineTerms
+pub mod Short
+pub mod ShortRules
 pub mod inner

@@ -1,3 +1,3 @@
 pub mod Bench
-pub mod Checking
-pub mod Sourced
+pub mod Standing
+pub mod Sharing

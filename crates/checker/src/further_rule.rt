@@ -1,38 +1,42 @@
-//! The further rule of a version: how its lines state a triple from one theorem, beside the rules
-//! of each version.
+//! The further rule of a version, over triples whose terms are numbers of an arena.
 
-ghost use Rattle.std.specs.Prelude.{◌≡◌, ◌↔◌, IfOk, IsOk};
-ghost use Rattle.tailrec_lang.specs.Tree.{GroupTree};
-ghost use Rattle.triple_kernel.specs.Tree.{TripleTree, triple_tree};
-ghost use Rattle.checker.specs.Instance.{KeepsValid, no_rule};
+ghost use Rattle.std.specs.Prelude.{◌≡◌, ◌+◌, ◌↔◌, ◌≤◌, IfOk, IsTrue};
+ghost use Rattle.term_arena.specs.Arena.{Extends};
+ghost use Rattle.held_terms.specs.Held.{IsHeldAt, triple_of};
+ghost use Rattle.verdicts.specs.Further.{further_of};
 
-use triple_kernel::{NoInstance, Thm, Triple};
+use group_text::Version;
+use held_terms::{Held, is_exchanged, is_steered};
+use rv_words::NoMemory;
+use std::alloc::Global;
+use std::sync::ledger::Ledger;
+use term_arena::{Arena, Steps};
 
-/// The further rule of a version.
-pub trait FurtherRule {
-    /// When a triple is stated from another.
-    ghost states: { TripleTree → TripleTree → Type 0 };
-
-    /// The stated triple as a theorem, from another.
-    fn state<'g>(&self, premise: &Thm<'g>, stated: Triple) -> Result<Thm<'g>, NoInstance>
-        ensures ok { IfOk result (λ t. t ≡ (premise.now.0, stated)) }
-        ensures exact { IsOk result ↔ states (triple_tree premise.now.1) (triple_tree stated) };
-
-    /// The law of the rule: what it states from a valid triple is valid. The call does nothing.
-    fn law(&self)
-        ensures { (g : GroupTree) → KeepsValid states g };
-}
-
-/// No further rule, as in version 1: it states nothing.
-#[derive(Clone, Copy, Debug, Drop)]
-pub struct NoRule;
-
-impl FurtherRule for NoRule {
-    ghost states = { no_rule };
-
-    fn state<'g>(&self, _premise: &Thm<'g>, _stated: Triple) -> Result<Thm<'g>, NoInstance> {
-        Err(NoInstance)
+/// Whether the further rule of that version states that triple from the premise. Whether their code
+/// is the same is told by the caller. It takes at most one step.
+#[tactic(auto, using(held_terms::proofs::GrowthLemmas::extends_none))]
+pub(crate) fn is_further<L: Ledger>(
+    alloc: Global,
+    version: Version,
+    arena: &mut Arena,
+    premise: &Held,
+    stated: &Held,
+    same_code: bool,
+    steps: &mut Steps<L>,
+) -> Result<bool, NoMemory>
+    requires premise { IsHeldAt arena.old premise.now }
+    requires stated { IsHeldAt arena.old stated.now }
+    requires code { IsTrue same_code ↔ (premise.now.code.ranges ≡ stated.now.code.ranges) }
+    ensures answer { IfOk result (λ r.
+        IsTrue r
+        ↔ further_of version (triple_of arena.old premise.now) (triple_of arena.old stated.now)) }
+    ensures grows { Extends arena.old arena.new }
+    ensures steps { steps.new ≤ steps.old + 1 }
+{
+    match version {
+        Version::One => Ok(false),
+        Version::Two => Ok(false),
+        Version::Three => is_steered(alloc, arena, premise, stated, same_code, steps),
+        Version::Four => Ok(is_exchanged(arena, premise, stated, same_code)),
     }
-
-    fn law(&self) {}
 }

@@ -1,7 +1,7 @@
 -- Items for names are accepted, and have a text.
 use Rattle.std.proofs.Common.{ℕ, List, [], ◌∷◌, map}
 use Rattle.std.specs.List.{AllByRecursion, AllZip}
-use Rattle.checker.specs.Accepts.{IsAcceptedBy}
+use Rattle.verdicts.specs.Accepts.{IsAcceptedBy}
 use Rattle.path_walk.specs.declared.item.Item.{Item}
 use Rattle.proof_text.specs.Proofs.{IsProofIn}
 use Rattle.decompiler.specs.Listing.{IsItemBy, ItemForm, proof_of}

@@ -8,7 +8,7 @@ use Rattle.elf_image.specs.Image.{code_of_file}
 use Rattle.tailrec_lang.specs.Tree.{GroupTree, group_tree}
 use Rattle.group_text.specs.Limits.{IsGroup, IsName}
 use Rattle.proof_text.specs.Line.{LineTree, line_tree}
-use Rattle.checker.specs.Accepts.{IsAccepted}
+use Rattle.verdicts.specs.Accepts.{IsAccepted}
 use Rattle.claims.specs.Exact.{FirstReturns}
 use Rattle.claims.specs.Turns.{InFirstMemory}
 use Rattle.decompiler.proofs.Counts.{Returning, counts-of, exact-of}

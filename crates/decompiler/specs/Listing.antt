@@ -15,8 +15,8 @@ use Rattle.instr_axioms.specs.Terms.{has_memory}
 use Rattle.proof_text.specs.Line.{ProofTree, line_tree}
 use Rattle.group_text.specs.Version.{Version, version_1}
 use Rattle.proof_text.specs.Proofs.{IsProofIn}
-use Rattle.checker.specs.Accepts.{IsAcceptedBy}
-use Rattle.checker.specs.Instance.{FurtherRule, no_rule}
+use Rattle.verdicts.specs.Accepts.{IsAcceptedBy}
+use Rattle.verdicts.specs.Instance.{FurtherRule, no_rule}
 use Rattle.claims.specs.Headline.{Region, entry_at}
 use Rattle.claims.specs.Exact.{Exact, FirstReturns}
 use Rattle.claims.specs.Turns.{CountsSteps, InFirstMemory}

@@ -3,7 +3,7 @@
 
 ghost use Rattle.std.specs.Prelude.{ℕ, List, ◌∷◌, [], false, true};
 ghost use Rattle.elf_image.specs.Fault.{IsReadable};
-ghost use Rattle.checker.specs.Accepts.{Accepts};
+ghost use Rattle.verdicts.specs.Accepts.{Accepts};
 ghost use Rattle.proof_text.specs.Proofs.{AreProofs};
 ghost use Rattle.decompiler.specs.Listing.{AreItemsBy, alone_form, proofs_of};
 ghost use Rattle.path_walk.specs.declared.proof.Proof.{Proof as TheProof};

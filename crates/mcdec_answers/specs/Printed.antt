@@ -10,8 +10,8 @@ use Rattle.rv_machine.specs.declared.state.Stuck.{Stuck}
 use Rattle.rv_machine.specs.declared.state.Stuck.TheVariants as stuck
 use Rattle.elf_image.specs.declared.symbol.NameFault.{NameFault}
 use Rattle.elf_image.specs.declared.symbol.NameFault.TheVariants as name
-use Rattle.checker.specs.declared.verdict.Verdict.{Verdict}
-use Rattle.checker.specs.declared.verdict.Verdict.TheVariants as verdict
+use Rattle.verdicts.specs.declared.verdict.Verdict.{Verdict}
+use Rattle.verdicts.specs.declared.verdict.Verdict.TheVariants as verdict
 use Rattle.mcdec_answers.specs.declared.answer.Answer.{Answer}
 use Rattle.mcdec_answers.specs.declared.answer.Answer.TheVariants as answer
 use Rattle.mcdec_answers.specs.declared.answer.EvalAnswer.{EvalAnswer}

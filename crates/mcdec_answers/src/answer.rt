@@ -2,11 +2,11 @@
 
 use crate::command::Form;
 use call_graph::LinkWhy;
-use checker::Verdict;
 use elf_image::{ElfFault, NameFault};
 use rv_machine::Stuck;
 use rv_words::{List, Range, Text};
 use self_test::Outcome;
+use verdicts::Verdict;
 
 /// The answer to a list of words.
 #[derive(Debug, Drop)]

@@ -15,7 +15,6 @@ use crate::answer::{
 };
 use crate::command::{Form, Memory};
 use call_graph::LinkWhy;
-use checker::Verdict;
 use elf_image::{ElfFault, NameFault};
 use flow_graph::Outside;
 use itoa::Buffer;
@@ -23,6 +22,7 @@ use mc_shelf::{Sink, Stop};
 use mc_text::{digit_pair, hex_into};
 use rv_machine::Stuck;
 use rv_words::{List as Items, Range};
+use verdicts::Verdict;
 
 /// A piece of a line.
 #[derive(Clone, Copy)]

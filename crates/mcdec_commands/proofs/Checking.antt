@@ -5,13 +5,14 @@ use Rattle.mc_shelf.specs.Shelf.{Contents}
 use Rattle.elf_image.specs.Fault.{fault_of}
 use Rattle.proof_text.specs.inner.PulledRows.{IfFile}
 use Rattle.proof_text.proofs.PullLemmas.{told_so}
-use Rattle.checker.specs.Pulled.{IfVerdict, is_outside}
-use Rattle.checker.specs.declared.verdict.Pulled.{Pulled}
-use Rattle.checker.specs.declared.verdict.Pulled.TheVariants as pulled
-use Rattle.checker.specs.declared.verdict.Verdict.{Verdict}
-use Rattle.checker.specs.declared.verdict.Verdict.TheVariants as verdict
-use Rattle.text_versions.specs.Versions.{SaysOf}
-use Rattle.text_versions.proofs.NamedVersions.{named-fault}
+use Rattle.verdicts.specs.Pulled.{IfVerdict, is_outside}
+use Rattle.verdicts.specs.declared.verdict.Pulled.{Pulled}
+use Rattle.verdicts.specs.declared.verdict.Pulled.TheVariants as pulled
+use Rattle.verdicts.specs.declared.verdict.Verdict.{Verdict}
+use Rattle.verdicts.specs.declared.verdict.Verdict.TheVariants as verdict
+use Rattle.proof_v2.specs.AnyVerdicts.{SaysOf}
+use Rattle.proof_v2.specs.Titles.{named_version}
+use Rattle.proof_v2.proofs.AnyVerdicts.{fault-in}
 use Rattle.mcdec_answers.specs.declared.answer.CheckAnswer.{CheckAnswer}
 use Rattle.mcdec_answers.specs.declared.answer.CheckAnswer.TheVariants as check
 use Rattle.mcdec_answers.specs.declared.answer.Answer.{Answer}
@@ -63,7 +64,7 @@ module _ (proof file : List ℕ) (size : ℕ) (loaded : IsLoaded file) (short : 
     verdict-gives (verdict.BadDef group def) h = measured-text told (λ (t : List ℕ). SaysOf file t (verdict.BadDef group def)) measured h
     verdict-gives (verdict.BadLine line) h = measured-text told (λ (t : List ℕ). SaysOf file t (verdict.BadLine line)) measured h
     verdict-gives (verdict.NotProved group) h = measured-text told (λ (t : List ℕ). SaysOf file t (verdict.NotProved group)) measured h
-    verdict-gives (verdict.BadElf why) h = measured-file told (fault_of file ≡ Some why) measured (told_so told proof _ _ (λ files text is held says. named-fault file (take size text) why says) h)
+    verdict-gives (verdict.BadElf why) h = measured-file told (fault_of file ≡ Some why) measured (told_so told proof _ _ (λ files text is held says. fault-in (named_version (take size text)) file (take size text) why says) h)
     verdict-gives verdict.NoMemory h = tt
 
     pub pulled-gives : (p : Pulled) → IfVerdict p (λ v. IfFile told proof (λ text. SaysOf file (take size text) v)) → (is_outside p ≡ true → rose) → ImageGives told proof file rose (answer_to p)

@@ -9,7 +9,7 @@ use Rattle.path_walk.specs.declared.item.Item.{Item}
 use Rattle.path_walk.specs.declared.proof.Proof.{Proof}
 use Rattle.decompiler.specs.Listing.{proofs_of}
 use Rattle.mcdec_answers.specs.declared.command.Form.{Form}
-use Rattle.checker.specs.declared.verdict.Verdict.TheVariants as ve
+use Rattle.verdicts.specs.declared.verdict.Verdict.TheVariants as ve
 use Rattle.mcdec_answers.specs.declared.answer.Answer.{Answer}
 use Rattle.mcdec_answers.specs.declared.answer.Answer.TheVariants as answer
 use Rattle.mcdec_answers.specs.declared.answer.DecompileAnswer.TheVariants as de

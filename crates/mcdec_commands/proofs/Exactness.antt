@@ -8,20 +8,18 @@ use Rattle.std.proofs.lemmas.List.{length-map}
 use Rattle.tailrec_lang.specs.Tree.{DefTree, GroupTree, def_tree, group_tree, listed_def}
 use Rattle.tailrec_lang.specs.WellFormed.{IsWellFormed, IsFirstIllFormed}
 use Rattle.tailrec_lang.specs.Eval.{Done, SideFalse, Turns, NoOutcome, Outcome, eval}
-use Rattle.checker.specs.Further.{further_of}
 use Rattle.proof_v2.specs.AnyText.{any_texts}
 use Rattle.proof_v2.specs.Titles.{named_version}
-use Rattle.proof_v2.proofs.AnyVerdicts.{accepted-lists}
-use Rattle.text_versions.specs.Versions.{IsTextListing, SaysOf}
-use Rattle.text_versions.proofs.NamedVersions.{accepted-named, named-comes}
+use Rattle.proof_v2.proofs.AnyVerdicts.{accepted-in, accepted-lists, verdict-comes-in}
+use Rattle.proof_v2.specs.AnyVerdicts.{IsTextListing, SaysOf}
 use Rattle.mcdec_answers.specs.declared.answer.Answer.{Answer}
 use Rattle.mcdec_answers.specs.declared.answer.Answer.TheVariants as answer
 use Rattle.mcdec_answers.specs.declared.answer.EvalAnswer.{EvalAnswer}
 use Rattle.mcdec_answers.specs.declared.answer.EvalAnswer.TheVariants as ev
 use Rattle.mcdec_answers.specs.declared.answer.RunAnswer.{RunAnswer}
 use Rattle.mcdec_answers.specs.declared.answer.RunAnswer.TheVariants as ra
-use Rattle.checker.specs.declared.verdict.Verdict.{Verdict}
-use Rattle.checker.specs.declared.verdict.Verdict.TheVariants as verdict
+use Rattle.verdicts.specs.declared.verdict.Verdict.{Verdict}
+use Rattle.verdicts.specs.declared.verdict.Verdict.TheVariants as verdict
 use Rattle.mcdec_answers.specs.declared.answer.CheckAnswer.{CheckAnswer}
 use Rattle.mcdec_answers.specs.declared.answer.CheckAnswer.TheVariants as ca
 use Rattle.mcdec_commands.specs.CheckAnswer.{CheckGives, AreRightFiles}
@@ -314,7 +312,7 @@ judged-unique file text a b (inl h) (inl k) = h.1 ∙ sym k.1
 judged-unique file text a b (inl h) (inr k) = absurd (over (length text) proof_limit h.0 k.0)
 judged-unique file text a b (inr h) (inl k) = absurd (over (length text) proof_limit k.0 h.0)
 judged-unique file text a b (inr (short, (v, some, says, is))) (inr (less, (w, other, said, this))) =
-    is ∙ ap ca.Judged (elim (named-comes file text v says w said) [ inl same ↦ same | inr never ↦ absurd (elim never [ inl none ↦ other none | inr none ↦ some none ]) ]) ∙ sym this
+    is ∙ ap ca.Judged (elim (verdict-comes-in (named_version text) file text v says w said) [ inl same ↦ same | inr never ↦ absurd (elim never [ inl none ↦ other none | inr none ↦ some none ]) ]) ∙ sym this
 
 abbrev TextHeld : Contents → List ℕ → List ℕ → CheckAnswer → Type 0
 TextHeld files proof file a = (text : List ℕ) × (files proof ≡ Some text) × JudgedCase file text a
@@ -737,7 +735,7 @@ same-words elf proof elf' proof' e = (cc, cc)
 
 accepted-files : (files : Contents) (elf proof file : List ℕ) (functions lines : ℕ) → files elf ≡ Some file → CheckGives (Some files) proof file (ca.Judged (verdict.Accepted functions lines)) → AreRightFiles files elf proof
 accepted-files files elf proof file functions lines holds (loaded, (text, held, (short, good))) =
-    let l = accepted-lists (further_of (named_version text)) (named_version text) file text functions lines good in
+    let l = accepted-lists (named_version text) file text functions lines good in
     record {
       file = file;
       text = text;
@@ -747,7 +745,7 @@ accepted-files files elf proof file functions lines holds (loaded, (text, held, 
       groups = l.0;
       fit = groups-fit (named_version text) text l.0 l.1;
       listed = groups-left (named_version text) text l.0 l.1;
-      right = accepted-named file text (verdict.Accepted functions lines) good tt l.0 l.1;
+      right = accepted-in (named_version text) file text (verdict.Accepted functions lines) good tt l.0 l.1;
     }
 
 status-zero : (files : Contents) (elf proof file : List ℕ) (a : CheckAnswer) → files elf ≡ Some file → CheckGives (Some files) proof file a → status (answer.Check a) ≡ 0 → AreRightFiles files elf proof

@@ -23,7 +23,7 @@ use Rattle.proof_text.proofs.Fronts.{fronts, front-read, few-read, given-read, t
 use Rattle.proof_text.proofs.ProofTexts.{proofs-once}
 use Rattle.mcdec_commands.specs.declared.search.Refusal.{Refusal}
 use Rattle.mcdec_commands.specs.declared.search.Refusal.TheVariants as refusal
-use Rattle.checker.specs.inner.Checking.{IsSameText}
+use Rattle.verdicts.specs.inner.Checking.{IsSameText}
 use Rattle.proof_v2.specs.AnyReading.{AnyState, AreSomeLinesIn, AreTermsIn, GivesGroupAny, GivesLines, HasGivenAny, StopsGroups, StopsLines, as_item, with_lines}
 use Rattle.proof_v2.specs.AnyText.{AnyProof, BeginsIn, ListsIn, any_lines, any_texts}
 use Rattle.proof_v2.specs.Titles.{named_version}

@@ -2,9 +2,9 @@
 use Rattle.std.proofs.Common.{◌≡◌, ℕ, ◌≤◌, List, length, Option, Some, None, refl, sym, subst, inl, inr}
 use Rattle.std.specs.Prelude.{IfSome}
 use Rattle.mc_shelf.specs.Shelf.{Contents}
-use Rattle.checker.specs.declared.verdict.Verdict.{Verdict}
-use Rattle.checker.specs.declared.verdict.Verdict.TheVariants as verdict
-use Rattle.checker.specs.Verdicts.{IsAcceptance, Says}
+use Rattle.verdicts.specs.declared.verdict.Verdict.{Verdict}
+use Rattle.verdicts.specs.declared.verdict.Verdict.TheVariants as verdict
+use Rattle.verdicts.specs.Verdicts.{IsAcceptance, Says}
 use Rattle.proof_v2.specs.MigratedText.{IsMigratedText}
 use Rattle.mcdec_answers.specs.declared.answer.Answer.{Answer}
 use Rattle.mcdec_answers.specs.declared.answer.Answer.TheVariants as answer

@@ -4,11 +4,11 @@ use Rattle.mc_shelf.specs.Shelf.{Contents}
 use Rattle.elf_image.specs.Fault.{IsReadable, fault_of}
 use Rattle.elf_image.specs.declared.fault.ElfFault.{ElfFault}
 use Rattle.group_text.specs.declared.version.Version.TheVariants.{One}
-use Rattle.checker.specs.Instance.{no_rule}
-use Rattle.checker.specs.Verdicts.{Says}
-use Rattle.checker.specs.declared.verdict.Verdict.{Verdict}
-use Rattle.checker.specs.declared.verdict.Verdict.TheVariants as verdict
-use Rattle.checker.proofs.OneVerdict.{verdict-once}
+use Rattle.verdicts.specs.Instance.{no_rule}
+use Rattle.verdicts.specs.Verdicts.{Says}
+use Rattle.verdicts.specs.declared.verdict.Verdict.{Verdict}
+use Rattle.verdicts.specs.declared.verdict.Verdict.TheVariants as verdict
+use Rattle.verdicts.proofs.OneVerdict.{verdict-once}
 use Rattle.mcdec_answers.specs.declared.answer.MigrateAnswer.{MigrateAnswer}
 use Rattle.mcdec_answers.specs.declared.answer.MigrateAnswer.TheVariants as mi
 use Rattle.mcdec_commands.specs.EvalAnswer.{proof_limit}

@@ -8,14 +8,12 @@ use Rattle.group_text.specs.Version.{Version, version_1, version_3, version_4, v
 use Rattle.proof_text.specs.Line.{ProofTree}
 use Rattle.proof_text.specs.Proofs.{AreProofsIn, text_of_proofs_in}
 use Rattle.frame_compose.specs.Rules.{IsExchanged, IsSteered}
-use Rattle.checker.specs.Instance.{FurtherRule, no_rule}
-use Rattle.checker.specs.Further.{further_of}
-use Rattle.checker.specs.Accepts.{AcceptsBy}
-use Rattle.checker.specs.Verdicts.{IsAcceptedText, line_count}
-use Rattle.checker.specs.declared.verdict.Verdict.TheVariants as verdict
-use Rattle.proof_v2.specs.AnyVerdicts.{SaysIn}
+use Rattle.verdicts.specs.Instance.{FurtherRule, no_rule}
+use Rattle.verdicts.specs.Accepts.{AcceptsBy}
+use Rattle.verdicts.specs.Verdicts.{IsAcceptedText, line_count}
+use Rattle.verdicts.specs.declared.verdict.Verdict.TheVariants as verdict
 use Rattle.proof_v2.specs.Titles.{named_version}
-use Rattle.text_versions.specs.Versions.{SaysOf}
+use Rattle.proof_v2.specs.AnyVerdicts.{SaysIn, SaysOf}
 use Rattle.path_walk.specs.declared.proof.Proof.{Proof}
 use Rattle.decompiler.specs.Listing.{proofs_of}
 use Rattle.mcdec_answers.specs.declared.command.Form.{Form}
@@ -37,8 +35,8 @@ accepted-text : (F : FurtherRule) (v : Version) (file text : List ℕ) (ps : Lis
 accepted-text F v file text ps fit spelled accepted = record { proofs = ps; spelled = record { fit = fit; spelled = spelled }; accepted = accepted; groups = refl; count = refl }
 
 -- a text by its version
-says-of : (k : Known) (file text : List ℕ) (functions lines : ℕ) → named_version text ≡ k → SaysIn (further_of k) k file text (verdict.Accepted functions lines) → SaysOf file text (verdict.Accepted functions lines)
-says-of k file text functions lines e h = subst (λ (x : Known). SaysIn (further_of x) x file text (verdict.Accepted functions lines)) (sym e) h
+says-of : (k : Known) (file text : List ℕ) (functions lines : ℕ) → named_version text ≡ k → SaysIn k file text (verdict.Accepted functions lines) → SaysOf file text (verdict.Accepted functions lines)
+says-of k file text functions lines e h = subst (λ (x : Known). SaysIn x file text (verdict.Accepted functions lines)) (sym e) h
 
 -- what the laws of items say
 pub record AreAcceptedItems : Type 0 where

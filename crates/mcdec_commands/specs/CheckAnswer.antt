@@ -8,9 +8,9 @@ use Rattle.group_text.specs.Version.{version_of}
 use Rattle.group_text.specs.Spelling.{text_in}
 use Rattle.group_text.specs.Limits.{AreGroupsIn}
 use Rattle.claims.specs.Headline.{Headline}
-use Rattle.checker.specs.declared.verdict.Verdict.{Verdict}
-use Rattle.checker.specs.declared.verdict.Verdict.TheVariants as verdict
-use Rattle.text_versions.specs.Versions.{SaysOf}
+use Rattle.verdicts.specs.declared.verdict.Verdict.{Verdict}
+use Rattle.verdicts.specs.declared.verdict.Verdict.TheVariants as verdict
+use Rattle.proof_v2.specs.AnyVerdicts.{SaysOf}
 use Rattle.mcdec_answers.specs.declared.answer.CheckAnswer.{CheckAnswer}
 use Rattle.mcdec_answers.specs.declared.answer.CheckAnswer.TheVariants as answer
 use Rattle.mcdec_commands.specs.Held.{HasFile}

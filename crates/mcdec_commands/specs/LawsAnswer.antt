@@ -16,7 +16,7 @@ use Rattle.claims.specs.Turns.{InFirstMemory, RunsBack}
 use Rattle.stack_offsets.specs.SplitExact.{SplitExact, UsesSplit}
 use Rattle.carried_claims.specs.Within.{IsExactIn, IsRightIn}
 use Rattle.group_text.specs.Spelling.{group_tokens}
-use Rattle.text_versions.specs.Versions.{IsTextListing}
+use Rattle.proof_v2.specs.AnyVerdicts.{IsTextListing}
 use Rattle.fun_laws.specs.Rewriting.{AreRewritingSteps, with_defs}
 use Rattle.fun_laws.specs.Certs.{IsFirstBad}
 use Rattle.fun_laws.specs.Evaluation.{EvaluateAlike}

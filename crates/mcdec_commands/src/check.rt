@@ -12,12 +12,12 @@ ghost use Rattle.mcdec_commands.specs.RunAnswer.{IsLoaded};
 ghost use Rattle.mcdec_commands.specs.inner.Shelves.{ReadsFiles};
 
 use crate::load::{LoadFault, PROOF_LIMIT, load_image, not_read};
-use checker::{Pulled, Verdict};
 use elf_image::Image;
 use mc_shelf::{MeasureEnd, Shelf, measure};
 use mcdec_answers::{Answer, Check, CheckAnswer};
+use proof_v2::check_file;
 use std::alloc::Global;
-use text_versions::check_file;
+use verdicts::{Pulled, Verdict};
 
 /// The answer to `check`.
 pub fn answer_check<S: Shelf>(alloc: Global, c: &Check<'_>, shelf: &mut S) -> Answer

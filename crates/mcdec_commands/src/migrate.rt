@@ -5,7 +5,7 @@ ghost use Rattle.mc_shelf.specs.Fault.{Rose, WhereTold};
 ghost use Rattle.mc_shelf.specs.Shelf.{TellsName};
 ghost use Rattle.elf_image.specs.Fault.{IsReadable};
 ghost use Rattle.elf_image.specs.Image.{image_of};
-ghost use Rattle.checker.specs.Verdicts.{IsAcceptance};
+ghost use Rattle.verdicts.specs.Verdicts.{IsAcceptance};
 ghost use Rattle.mcdec_answers.specs.Printed.{status};
 ghost use Rattle.mcdec_commands.specs.Answer.{Gives};
 ghost use Rattle.mcdec_commands.specs.MigrateAnswer.{IsMigrationFor};
@@ -18,12 +18,12 @@ ghost use Rattle.mcdec_commands.specs.inner.Shelves.{ReadsThenWrites};
 
 use crate::load::{LoadFault, PROOF_LIMIT, load_image, not_read};
 use crate::output::write_answer;
-use checker::Verdict;
 use elf_image::Image;
 use mc_shelf::{Shelf, read_file};
 use mcdec_answers::{Answer, Migrate, MigrateAnswer};
 use proof_v2::migrate_image;
 use std::alloc::Global;
+use verdicts::Verdict;
 
 /// The answer to `migrate`.
 pub fn answer_migrate<S: Shelf>(alloc: Global, m: &Migrate<'_>, shelf: &mut S) -> Answer

@@ -10,10 +10,9 @@ ghost use Rattle.proof_v2.specs.Titles.{named_version};
 ghost use Rattle.mcdec_commands.specs.inner.Search.{Finds, FoundSo, LineIs, LinesArePassed, NextIs};
 
 use proof_text::TextFault;
-use proof_v2::AnyReader;
+use proof_v2::{AnyReader, reader_of};
 use std::alloc::Global;
 use tailrec_lang::{BadDef, Group, well_formed};
-use text_versions::reader_of;
 
 /// Why a text has no function of the name.
 #[derive(Clone, Copy, PartialEq, Eq)]

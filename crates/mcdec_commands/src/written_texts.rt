@@ -3,16 +3,16 @@
 
 ghost use Rattle.std.specs.Prelude.{◌≡◌, ℕ, List, Some};
 ghost use Rattle.mc_shelf.specs.Shelf.{Contents};
-ghost use Rattle.checker.specs.declared.verdict.Verdict.{Verdict as VerdictOf};
-ghost use Rattle.text_versions.specs.Versions.{SaysOf};
+ghost use Rattle.verdicts.specs.declared.verdict.Verdict.{Verdict as VerdictOf};
+ghost use Rattle.proof_v2.specs.AnyVerdicts.{SaysOf};
 ghost use Rattle.mcdec_answers.specs.declared.command.Form.{Form as FormOf};
 ghost use Rattle.mcdec_answers.specs.declared.answer.Answer.{Answer as AnswerOf};
 ghost use Rattle.mcdec_commands.specs.DecompileAnswer.{IsTextFor};
 
 use call_link::law_of_linked_items;
-use checker::Verdict;
 use decompiler::law_of_items;
 use stack_split::law_of_split_items;
+use verdicts::Verdict;
 
 /// A text that is written for names of an ELF file is accepted for that file, by the definition of
 /// the verdict that `check` comes to for any text within its limit.

@@ -13,7 +13,7 @@ use Rattle.triple_kernel.specs.Rules.{IsInst}
 use Rattle.loop_rule.specs.Leaves.{at_exit, parameters, variables_after, with_values}
 use Rattle.loop_rule.specs.Rule.{exit_triple, results}
 use Rattle.proof_text.specs.Line.{Inst, UseExit}
-use Rattle.checker.specs.Instance.{Meets, put_for}
+use Rattle.verdicts.specs.Instance.{Meets, put_for}
 use Rattle.code_parts.specs.declared.part.Part.{Part}
 use Rattle.code_parts.specs.Bodies.{Flow, VariableMap, current, exits_of, first, start, with_pc}
 use Rattle.tailrec_lang.specs.Registers.{AreRegistersFrom}

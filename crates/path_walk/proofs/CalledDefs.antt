@@ -1,7 +1,7 @@
 -- The definitions that a body calls stay closed.
 use Rattle.std.proofs.Common.{◌≡◌, ℕ, suc, List, [], ◌∷◌, Bool, true, false, eqb, refl, ap, ◌∙◌, eqb-true, ◌<◌, arith}
 use Rattle.tailrec_lang.specs.Tree.{StepTree, BodyTree, Do, Branch, Call, Again, Leave, ArmTrees, NoArm, Arm, with_steps}
-use Rattle.checker.specs.Instance.{History}
+use Rattle.verdicts.specs.Instance.{History}
 use Rattle.path_walk.specs.Closed.{AreClosed, ArmsClosed}
 use Rattle.path_walk.specs.inner.Histories.{Keeps}
 use Rattle.std.proofs.lemmas.Bool.{eqb-false}

@@ -15,7 +15,7 @@ use Rattle.triple_kernel.specs.Rules.{IsInst, put_in_values, put_in_register, pu
 use Rattle.tailrec_lang.specs.Registers.{AreRegistersFrom}
 use Rattle.loop_rule.specs.Leaves.{variables_after, parameters, with_values, at_exit}
 use Rattle.loop_rule.specs.Rule.{results, exit_triple}
-use Rattle.checker.specs.Instance.{put_for}
+use Rattle.verdicts.specs.Instance.{put_for}
 use Rattle.code_parts.specs.Bodies.{Flow, VariableMap, current}
 use Rattle.path_walk.specs.inner.Histories.{exit_place, pc_of}
 use Rattle.code_parts.specs.Flows.{group_over}

@@ -15,7 +15,7 @@ use Rattle.proof_text.specs.LineLimits.{IsLineIn}
 use Rattle.loop_rule.specs.Tree.{LeafTree}
 use Rattle.loop_rule.specs.Leaves.{body_leaves, leaves_of}
 use Rattle.loop_rule.specs.Rule.{IsClosedBy, IsLedTo, LeadsTo}
-use Rattle.checker.specs.Instance.{AreInstancesBy, History, after_line, after_lines, no_lines, with_closed}
+use Rattle.verdicts.specs.Instance.{AreInstancesBy, History, after_line, after_lines, no_lines, with_closed}
 use Rattle.code_parts.proofs.Lists.{length-map}
 use Rattle.code_parts.specs.declared.part.Part.{Part}
 use Rattle.code_parts.specs.declared.part.Part.TheVariants as part
@@ -23,7 +23,7 @@ use Rattle.code_parts.specs.Bodies.{Flow, VariableMap, arms_over, body_at, curre
 use Rattle.path_walk.specs.Closed.{AreClosed}
 use Rattle.code_parts.specs.Graph.{CallsBelow, HasPart, IsCode, IsFor}
 use Rattle.group_text.specs.declared.version.Version.{Version as Known}
-use Rattle.checker.specs.Further.{further_of}
+use Rattle.verdicts.specs.Further.{further_of}
 use Rattle.path_walk.specs.Further.{IsVersionFor}
 use Rattle.path_walk.specs.Item.{AreClosing, IsWalkedIn}
 use Rattle.path_walk.specs.inner.Acts.{results_at}

@@ -19,13 +19,13 @@ use Rattle.loop_rule.specs.Tree.{LeafTree}
 use Rattle.loop_rule.specs.Leaves.{arm_leaves, body_leaves, variables_after}
 use Rattle.group_text.specs.declared.version.Version.{Version as Known}
 use Rattle.proof_text.specs.Line.{Further}
-use Rattle.checker.specs.Instance.{InstanceBy}
+use Rattle.verdicts.specs.Instance.{InstanceBy}
 use Rattle.code_parts.specs.declared.part.Part.{Part}
 use Rattle.code_parts.specs.declared.callee.Callee.{Callee}
 use Rattle.code_parts.specs.Bodies.{Flow, VariableMap, size, action_body, action_calling, body_at, current, fresh, names, needs, part_def, place_after, return_arm, start, writes}
 use Rattle.code_parts.specs.inner.Ends.{body_on}
 use Rattle.code_parts.proofs.Counts.{all-mems, all-words}
-use Rattle.checker.specs.Further.{further_of}
+use Rattle.verdicts.specs.Further.{further_of}
 use Rattle.path_walk.specs.inner.Acts.{Entered, Exited, GoesOn, LeftBy, exit_standing, new_facts, results_at, steered_standing, steered}
 use Rattle.path_walk.specs.inner.Writers.{FromAs, IsReady, Leads, Led, WriterTree, Context, CitedTree, StandsAs, Steps, Stood, group_in, past, standing_at}
 use Rattle.path_walk.proofs.CalledDefs.{below_steps, closed_more, closed_steps}

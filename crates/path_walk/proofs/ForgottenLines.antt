@@ -12,7 +12,7 @@ use Rattle.proof_text.specs.declared.line.Line.TheVariants as line
 use Rattle.proof_text.specs.Line.{LineTree, States, Loop, Forget, line_tree, Further}
 use Rattle.group_text.specs.Version.{Version}
 use Rattle.proof_text.specs.LineLimits.{IsLineIn}
-use Rattle.checker.specs.Instance.{AreInstancesBy, FurtherRule, History, after_line, after_lines, no_lines, with_closed, with_theorem, without}
+use Rattle.verdicts.specs.Instance.{AreInstancesBy, FurtherRule, History, after_line, after_lines, no_lines, with_closed, with_theorem, without}
 use Rattle.path_walk.specs.Forgotten.{KeepsNone}
 use Rattle.path_walk.specs.Item.{AreClosing}
 use Rattle.path_walk.specs.inner.Histories.{IsCounted}

@@ -33,7 +33,7 @@ use Rattle.code_parts.proofs.FlowCode.{is-code}
 use Rattle.code_parts.proofs.FlowEntry.{whole-is}
 use Rattle.code_parts.proofs.FlowOrder.{calls-below, part-at, there-at}
 use Rattle.code_parts.proofs.Lists.{length-map, slice-mapped}
-use Rattle.checker.specs.Further.{further_of}
+use Rattle.verdicts.specs.Further.{further_of}
 use Rattle.path_walk.specs.Item.{IsWalkedIn}
 use Rattle.code_parts.specs.Groups.{IsLinkedGroup, functions_of, group_in, load_or_store, member_in, members_of, context_in}
 use Rattle.code_parts.specs.declared.linked.LinkedFunction.{LinkedFunction}

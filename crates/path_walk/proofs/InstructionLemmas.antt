@@ -11,12 +11,12 @@ use Rattle.triple_kernel.specs.Tree.{FactTree, So, TripleTree}
 use Rattle.frame_compose.specs.Rules.{IsFramed}
 use Rattle.group_text.specs.declared.version.Version.{Version as Known}
 use Rattle.proof_text.specs.Line.{Axiom, Frame, Further, Inst, Weaken}
-use Rattle.checker.specs.Instance.{InstanceBy, Meets, put_for}
+use Rattle.verdicts.specs.Instance.{InstanceBy, Meets, put_for}
 use Rattle.instr_axioms.specs.Terms.{conditions, has_form, has_memory, pc_after}
 use Rattle.instr_axioms.specs.Axiom.{own, own_triple, triple_over, word_code}
 use Rattle.code_parts.specs.Bodies.{Flow, VariableMap, size, names, place_after}
 use Rattle.code_parts.specs.Graph.{StandsAt}
-use Rattle.checker.specs.Further.{further_of}
+use Rattle.verdicts.specs.Further.{further_of}
 use Rattle.path_walk.specs.Further.{is_crossed}
 use Rattle.path_walk.specs.inner.Acts.{Acted, GoesOn, Ordered, Put, Renamed, act_standing, all_mems, mem_first, named_own, named_wide, new_facts, own_mems, own_words}
 use Rattle.path_walk.specs.inner.Writers.{FromAs, IsReady, Restated, WriterTree, Context, CitedTree, Steps, Stood, group_in, past, stating, stating_further}

@@ -11,7 +11,7 @@ use Rattle.triple_kernel.specs.Tree.{FactTree, TripleTree}
 use Rattle.triple_kernel.specs.Rules.{AreAmong}
 use Rattle.frame_compose.specs.Rules.{AreMissing, IsComposed}
 use Rattle.proof_text.specs.Line.{Compose}
-use Rattle.checker.specs.Instance.{Meets}
+use Rattle.verdicts.specs.Instance.{Meets}
 use Rattle.code_parts.specs.Bodies.{Flow, VariableMap, start}
 use Rattle.path_walk.specs.inner.Acts.{GoesOn}
 use Rattle.path_walk.specs.inner.Writers.{FromAs, IsReady, WriterTree, Context, CitedTree, Stood, group_in, past, standing_at, stating}

@@ -18,7 +18,7 @@ use Rattle.triple_kernel.specs.Rules.{IsInst, IsWeakened}
 use Rattle.triple_kernel.specs.Swap.{WordsStated, MemsStated, SwapWord, SwapMem, SwapRegister}
 use Rattle.tailrec_lang.specs.Registers.{AreRegistersFrom}
 use Rattle.frame_compose.specs.Rules.{is_listed, listed as those_listed, IsFramed, AreExchanged, IsExchanged}
-use Rattle.checker.specs.Instance.{put_for}
+use Rattle.verdicts.specs.Instance.{put_for}
 use Rattle.triple_kernel.specs.declared.form.Form.{Form}
 use Rattle.rv_decode.specs.Registers.{is_read, registers_where, sources, destination}
 use Rattle.instr_axioms.specs.Terms.{Names, has_memory, conditions, result, word_after, memory_after, pc_after, has_form}

@@ -11,7 +11,7 @@ use Rattle.group_text.specs.Version.{version_of}
 use Rattle.proof_text.specs.LineLimits.{IsLineIn}
 use Rattle.group_text.specs.declared.version.Version.{Version as Known}
 use Rattle.group_text.specs.declared.version.Version.TheVariants.{One}
-use Rattle.checker.specs.Instance.{History, after_line, after_lines, no_lines}
+use Rattle.verdicts.specs.Instance.{History, after_line, after_lines, no_lines}
 use Rattle.flow_graph.specs.Graph.{GraphOf}
 use Rattle.loop_forest.specs.Forest.{ForestOf, IsForestOf, number_of}
 use Rattle.code_parts.specs.declared.part.Part.{Part}
@@ -21,7 +21,7 @@ use Rattle.code_parts.specs.declared.callee.Callee.{Callee}
 use Rattle.code_parts.specs.Bodies.{Flow, part_body, part_def}
 use Rattle.code_parts.specs.Graph.{CallsBelow, IsAlone, IsFor, IsGraph, IsMade, IsPart}
 use Rattle.code_parts.specs.Flows.{AreCodeOf, IsReached, Context, alone, flow_of, group_of, group_over}
-use Rattle.checker.specs.Further.{further_of}
+use Rattle.verdicts.specs.Further.{further_of}
 use Rattle.path_walk.specs.Further.{IsVersionFor}
 use Rattle.path_walk.specs.Item.{IsItemWith, IsWalkedIn}
 use Rattle.code_parts.specs.Order.{AreParts}

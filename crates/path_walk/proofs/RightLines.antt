@@ -4,7 +4,7 @@ use Rattle.tailrec_lang.specs.Tree.{GroupTree}
 use Rattle.triple_kernel.specs.Tree.{TripleTree}
 use Rattle.proof_text.specs.Line.{LineTree, States, Loop, Forget, Further}
 use Rattle.path_walk.specs.inner.Histories.{IsCounted, Keeps}
-use Rattle.checker.specs.Instance.{History, no_lines, without, with_closed, with_theorem, after_line, FurtherRule, InstanceBy, AreInstancesBy}
+use Rattle.verdicts.specs.Instance.{History, no_lines, without, with_closed, with_theorem, after_line, FurtherRule, InstanceBy, AreInstancesBy}
 
 -- lines that are right after those that left h behind them leave k behind them
 pub record Made (F : FurtherRule) (g : GroupTree) (h k : History) : Type 0 where

@@ -4,10 +4,10 @@ use Rattle.rv_words.specs.declared.range.Range.{Range}
 use Rattle.word_terms.specs.Tree.{WordTree}
 use Rattle.triple_kernel.specs.Tree.{FactTree, TripleTree}
 use Rattle.proof_text.specs.Line.{LineTree, RuleTree, States}
-use Rattle.checker.specs.Instance.{AreInstancesBy, History, InstanceBy, Meets, after_line, after_lines, with_theorem}
+use Rattle.verdicts.specs.Instance.{AreInstancesBy, History, InstanceBy, Meets, after_line, after_lines, with_theorem}
 use Rattle.code_parts.specs.Bodies.{Flow, VariableMap}
 use Rattle.path_walk.specs.inner.Histories.{IsCounted, Keeps}
-use Rattle.checker.specs.Further.{further_of}
+use Rattle.verdicts.specs.Further.{further_of}
 use Rattle.path_walk.specs.inner.Writers.{FromAs, Grown, IsReady, Restated, WriterTree, Context, CitedTree, StandsAs, adding, group_in, past, stating}
 use Rattle.path_walk.proofs.RightLines.{Made, fold-join, held_last, joined, made_one}
 

@@ -4,8 +4,8 @@ use Rattle.tailrec_lang.specs.Tree.{BodyTree, Do, Branch, Call, Again, Leave, Ar
 use Rattle.group_text.specs.declared.version.Version.{Version as Known}
 use Rattle.group_text.specs.declared.version.Version.TheVariants.{One}
 use Rattle.proof_text.specs.Line.{LineTree}
-use Rattle.checker.specs.Instance.{History, no_lines, after_lines, AreInstancesBy}
-use Rattle.checker.specs.Further.{further_of}
+use Rattle.verdicts.specs.Instance.{History, no_lines, after_lines, AreInstancesBy}
+use Rattle.verdicts.specs.Further.{further_of}
 
 abbrev mutual
   -- each definition that the body calls is closed

@@ -1,6 +1,6 @@
 -- Lines that keep no theorem.
 use Rattle.std.specs.Prelude.{◌≡◌, ℕ, None}
-use Rattle.checker.specs.Instance.{History}
+use Rattle.verdicts.specs.Instance.{History}
 
 -- no theorem is kept: each that was stated was forgotten
 abbrev pub KeepsNone : History → Type 0

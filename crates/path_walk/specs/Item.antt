@@ -8,14 +8,14 @@ use Rattle.group_text.specs.Version.{version_of}
 use Rattle.proof_text.specs.LineLimits.{IsLineIn}
 use Rattle.group_text.specs.declared.version.Version.{Version as Known}
 use Rattle.group_text.specs.declared.version.Version.TheVariants.{One}
-use Rattle.checker.specs.Instance.{AreInstancesBy, FurtherRule, History, after_line, after_lines}
+use Rattle.verdicts.specs.Instance.{AreInstancesBy, FurtherRule, History, after_line, after_lines}
 use Rattle.flow_graph.specs.Graph.{GraphOf}
 use Rattle.loop_forest.specs.Forest.{ForestOf, number_of}
 use Rattle.code_parts.specs.declared.part.Part.{Part}
 use Rattle.path_walk.specs.declared.item.Item.{Item}
 use Rattle.code_parts.specs.Bodies.{Flow, part_body, part_def}
 use Rattle.path_walk.specs.Closed.{AreClosed, AreClosedIn}
-use Rattle.checker.specs.Further.{further_of}
+use Rattle.verdicts.specs.Further.{further_of}
 use Rattle.code_parts.specs.Graph.{CallsBelow, IsFor}
 use Rattle.code_parts.specs.Flows.{AreCodeOf, Context, alone, flow_of, group_of}
 use Rattle.code_parts.specs.Order.{AreParts}

@@ -3,7 +3,7 @@
 ghost use Rattle.std.specs.Prelude.{◌≡◌, ◌+◌, ◌-◌, ◌≤◌, ◌<◌, ◌^◌, ◌∷◌, ◌++◌, [], List as Items, IfOk, OnOk, OnErr, false, length, map};
 ghost use Rattle.tailrec_lang.specs.Tree.{def_tree};
 ghost use Rattle.proof_text.specs.Line.{LineTree, line_tree};
-ghost use Rattle.checker.specs.Instance.{after_lines};
+ghost use Rattle.verdicts.specs.Instance.{after_lines};
 ghost use Rattle.code_parts.specs.Bodies as spec;
 ghost use Rattle.code_parts.specs.Graph.{IsPart};
 ghost use Rattle.code_parts.specs.Flows.{IsReached, alone, flow_of};

@@ -2,7 +2,7 @@
 
 ghost use Rattle.std.specs.Prelude.{IfOk, false, map};
 ghost use Rattle.proof_text.specs.Line.{line_tree};
-ghost use Rattle.checker.specs.Instance.{after_lines};
+ghost use Rattle.verdicts.specs.Instance.{after_lines};
 ghost use Rattle.loop_forest.specs.Forest.{IsForestOf};
 ghost use Rattle.code_parts.specs.Flows.{IsReached};
 ghost use Rattle.path_walk.specs.Forgotten.{KeepsNone};

@@ -14,10 +14,10 @@ use Rattle.proof_text.specs.Line.{LineTree, ProofTree}
 use Rattle.proof_text.specs.Proofs.{groups_of}
 use Rattle.proof_text.proofs.ProofTexts.{proofs-once}
 use Rattle.proof_text.proofs.WholeLaws.{lines_known}
-use Rattle.checker.specs.Accepts.{IsAccepted}
-use Rattle.checker.specs.Instance.{History, after_line, after_lines, no_lines, no_rule}
-use Rattle.checker.specs.LineRules.{AllLeave, IsAcceptedOver, IsProvedOver, IsTextOver, counted_in, count_over}
-use Rattle.checker.specs.Verdicts.{IsAcceptedText, IsTextOf, line_count}
+use Rattle.verdicts.specs.Accepts.{IsAccepted}
+use Rattle.verdicts.specs.Instance.{History, after_line, after_lines, no_lines, no_rule}
+use Rattle.verdicts.specs.LineRules.{AllLeave, IsAcceptedOver, IsProvedOver, IsTextOver, counted_in, count_over}
+use Rattle.verdicts.specs.Verdicts.{IsAcceptedText, IsTextOf, line_count}
 use Rattle.group_text.specs.Version.{version_1}
 use Rattle.short_text.specs.declared.short.Short.{Short}
 use Rattle.short_text.specs.declared.short.ShortLine.{ShortLine}
@@ -25,8 +25,8 @@ use Rattle.short_text.specs.declared.short.ShortLine.TheVariants.{Term, Proof}
 use Rattle.short_text.specs.ShortProofs.{AreShortLines, AreShortProofs, ShortProof, proof_lines, short_lines, table_of}
 use Rattle.short_text.proofs.LineParts.{apart, table-behind, table-kept}
 use Rattle.short_text.proofs.ReadLaws.{shorts_known}
-use Rattle.term_bench.specs.Short.{LeavesBehind}
-use Rattle.term_bench.specs.ShortRules.{short_rules}
+use Rattle.checker.specs.Short.{LeavesBehind}
+use Rattle.checker.specs.ShortRules.{short_rules}
 use Rattle.proof_v2.specs.Migration.{AreRightFor}
 use Rattle.proof_v2.specs.MigratedText.{IsMigratedProof, IsMigratedText}
 use Rattle.proof_v2.proofs.Migrated.{as-many}

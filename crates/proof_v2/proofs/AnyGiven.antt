@@ -23,7 +23,7 @@ use Rattle.short_text.specs.declared.short.ShortLine.TheVariants.{Term, Proof}
 use Rattle.short_text.specs.ShortProofs.{AreShortLines, IsNextLine, ShortProof, short_lines, short_texts, table_of}
 use Rattle.short_text.proofs.LineParts.{lines-more}
 use Rattle.short_text.specs.inner.ShortReaders.{AreKept, KeptLines}
-use Rattle.checker.specs.inner.Checking.{IsSameText}
+use Rattle.verdicts.specs.inner.Checking.{IsSameText}
 use Rattle.proof_v2.specs.declared.any_reader.AnyLine.{AnyLine}
 use Rattle.proof_v2.specs.declared.any_reader.AnyLine.TheVariants as any
 use Rattle.proof_v2.specs.AnyText.{AnyProof, any_lines, any_texts}

@@ -18,7 +18,7 @@ use Rattle.held_terms.specs.Held.{AreValuesAt, IsFactAt, IsSideAt, fact_of, regi
 use Rattle.short_text.specs.ShortLimits.{AreHeldRegisters, AreHeldValues, IsCondNumber, IsHeldFact, IsHeldSide, IsMemNumber, IsShort, IsWordNumber}
 use Rattle.short_text.specs.declared.short.Short.{Short}
 use Rattle.short_text.specs.declared.short.Short.TheVariants as short
-use Rattle.term_bench.specs.Short.{IsFineShort}
+use Rattle.checker.specs.Short.{IsFineShort}
 
 -- ---- numbers of a list that rises
 

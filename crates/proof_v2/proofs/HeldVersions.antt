@@ -18,10 +18,11 @@ use Rattle.group_text.specs.Version.{version_of}
 use Rattle.group_text.specs.Spelling.{title_tokens}
 use Rattle.proof_text.specs.Pulling.{PullState, held_text}
 use Rattle.proof_text.specs.inner.PulledRows.{IfFile}
-use Rattle.checker.specs.Pulled.{IfVerdict}
-use Rattle.checker.specs.declared.verdict.Pulled.{Pulled}
-use Rattle.checker.specs.declared.verdict.Pulled.TheVariants as pulled
-use Rattle.checker.specs.declared.verdict.Verdict.{Verdict}
+use Rattle.verdicts.specs.Pulled.{IfVerdict}
+use Rattle.verdicts.specs.declared.verdict.Pulled.{Pulled}
+use Rattle.verdicts.specs.declared.verdict.Pulled.TheVariants as pulled
+use Rattle.verdicts.specs.declared.verdict.Verdict.{Verdict}
+use Rattle.proof_v2.specs.AnyVerdicts.{SaysIn}
 use Rattle.proof_v2.specs.Titles.{any_version, has_title, named_version}
 
 -- ---- whether a text begins with a line is told of its first line
@@ -143,24 +144,26 @@ as-any-one k text not is = as-one text (λ two. not (is ∙ two))
 
 -- ---- what a verdict says of the text that the name holds
 
--- in the version that its first line names
-module _ (told : Option Contents) (elf : List ℕ) (result : Pulled) (Says : Known → (file text : List ℕ) → Verdict → Type 0) (named : List ℕ → Known) (name : List ℕ) (size : ℕ) (known : Known) where
-  pub says-named : (now : Option Contents) (s : PullState) → now ≡ told → s.rows.lines ≡ at-front name size → IfFile told name (λ file. known ≡ named (take size file))
-      → IfVerdict result (λ v. IfFile now s.rows.lines.name (λ file. Says known elf (held_text s file) v))
-      → IfVerdict result (λ v. IfFile told name (λ file. Says (named (take size file)) elf (take size file) v))
-  says-named now s kept at is h =
-      by result
-      (subst (λ (l : LinesState). IfVerdict result (λ v. IfFile told l.name (λ file. Says known elf (take l.size file) v))) at
-      (subst (λ (t : Option Contents). IfVerdict result (λ v. IfFile t s.rows.lines.name (λ file. Says known elf (held_text s file) v))) kept h))
-    where
-      in-name : (v : Verdict) (held : Option (List ℕ)) → IfSome held (λ file. known ≡ named (take size file)) → IfSome held (λ file. Says known elf (take size file) v) → IfSome held (λ file. Says (named (take size file)) elf (take size file) v)
-      in-name v None is h = tt
-      in-name v (Some file) is h = subst (λ (k : Known). Says k elf (take size file) v) is h
+-- of a text that is read from its front
+pub says-held : (told : Option Contents) (result : Pulled) (name : List ℕ) (size : ℕ) (s : PullState) → s.rows.lines ≡ at-front name size → (Says : List ℕ → Verdict → Type 0)
+    → IfVerdict result (λ v. IfFile told s.rows.lines.name (λ file. Says (held_text s file) v)) → IfVerdict result (λ v. IfFile told name (λ file. Says (take size file) v))
+says-held told result name size s at Says h = subst (λ (l : LinesState). IfVerdict result (λ v. IfFile told l.name (λ file. Says (take l.size file) v))) at h
 
-      in-files : (v : Verdict) (told : Option Contents) → IfFile told name (λ file. known ≡ named (take size file)) → IfFile told name (λ file. Says known elf (take size file) v) → IfFile told name (λ file. Says (named (take size file)) elf (take size file) v)
+-- in the version that its first line names
+module _ (told : Option Contents) (elf : List ℕ) (result : Pulled) (named : List ℕ → Known) (name : List ℕ) (size : ℕ) (known : Known) where
+  pub says-named : (now : Option Contents) → now ≡ told → IfFile told name (λ file. known ≡ named (take size file))
+      → IfVerdict result (λ v. IfFile now name (λ file. SaysIn known elf (take size file) v))
+      → IfVerdict result (λ v. IfFile told name (λ file. SaysIn (named (take size file)) elf (take size file) v))
+  says-named now kept is h = by result (subst (λ (t : Option Contents). IfVerdict result (λ v. IfFile t name (λ file. SaysIn known elf (take size file) v))) kept h)
+    where
+      in-name : (v : Verdict) (held : Option (List ℕ)) → IfSome held (λ file. known ≡ named (take size file)) → IfSome held (λ file. SaysIn known elf (take size file) v) → IfSome held (λ file. SaysIn (named (take size file)) elf (take size file) v)
+      in-name v None is h = tt
+      in-name v (Some file) is h = subst (λ (k : Known). SaysIn k elf (take size file) v) is h
+
+      in-files : (v : Verdict) (told : Option Contents) → IfFile told name (λ file. known ≡ named (take size file)) → IfFile told name (λ file. SaysIn known elf (take size file) v) → IfFile told name (λ file. SaysIn (named (take size file)) elf (take size file) v)
       in-files v None is h = tt
       in-files v (Some files) is h = in-name v (files name) is h
 
-      by : (r : Pulled) → IfVerdict r (λ v. IfFile told name (λ file. Says known elf (take size file) v)) → IfVerdict r (λ v. IfFile told name (λ file. Says (named (take size file)) elf (take size file) v))
+      by : (r : Pulled) → IfVerdict r (λ v. IfFile told name (λ file. SaysIn known elf (take size file) v)) → IfVerdict r (λ v. IfFile told name (λ file. SaysIn (named (take size file)) elf (take size file) v))
       by (pulled.Verdict v) h = in-files v told is h
       by pulled.Fault h = tt

@@ -6,6 +6,7 @@ pub mod Migrated
 pub mod LineTerms
 pub mod MoreLines
 pub mod RightTexts
+pub mod Keeping
 pub mod ShortTextParts
 pub mod ReadOn
 pub mod WrittenProofs

@@ -13,7 +13,7 @@ use Rattle.frame_compose.specs.Rules.{is_listed}
 use Rattle.term_arena.specs.Arena.{Tree, OfWord, OfMem, OfCond}
 use Rattle.proof_text.specs.Line.{RuleTree, Axiom, Inst, Frame, Compose, ExtendCode, Strengthen, Weaken, Discharge, UseExit, LineTree, States, Loop, Forget, Further}
 use Rattle.proof_text.specs.LineLimits.{AreRisingFrom, IsAssertion, IsFact, IsLine, IsRule, IsTriple}
-use Rattle.checker.specs.Instance.{History, after_line}
+use Rattle.verdicts.specs.Instance.{History, after_line}
 use Rattle.held_terms.specs.Terms.{assertion_terms, fact_terms, values_terms}
 use Rattle.proof_v2.specs.ShortTerms.{IsTerm, further_terms, line_terms, lines_terms, stated_terms}
 use Rattle.proof_v2.proofs.ShortOf.{rest-fits, some-fit}
@@ -63,19 +63,19 @@ facts-fit (f ∷ fs) h = both (fact_terms f) (flat_map fact_terms fs) (fact-fits
 side-fits : (a : AssertionTree) → IsAssertion a → All IsTerm (assertion_terms a)
 side-fits a h = first (OfWord a.pc) (map (λ r. OfWord r.1) a.regs ++ map OfMem a.mems) h.pc (both (map (λ r. OfWord r.1) a.regs) (map OfMem a.mems) (registers-fit a.regs h.words) (mems-fit a.mems h.mems))
 
-further-fit : (q t : TripleTree) → IsAssertion t.pre → All IsTerm (further_terms q t)
-further-fit q t h = both _ _
-    (registers-fit _ (some-fit (λ (r : ℕ × WordTree). IsWord r.1) (λ r. not (is_listed q.pre.regs r.0)) t.pre.regs h.words))
-    (mems-fit _ (rest-fits IsMem (length q.pre.mems) t.pre.mems h.mems))
+further-fit : (own a : AssertionTree) → IsAssertion a → All IsTerm (further_terms own a)
+further-fit own a h = both _ _
+    (registers-fit _ (some-fit (λ (r : ℕ × WordTree). IsWord r.1) (λ r. not (is_listed own.regs r.0)) a.regs h.words))
+    (mems-fit _ (rest-fits IsMem (length own.mems) a.mems h.mems))
 
-framed-fit : (o : Option TripleTree) (t : TripleTree) → IsAssertion t.pre → All IsTerm (unwrap_or (option_map (λ p. further_terms p t) o) [])
-framed-fit None t h = none
-framed-fit (Some q) t h = further-fit q t h
+framed-fit : (o : Option TripleTree) (a : AssertionTree) → IsAssertion a → All IsTerm (unwrap_or (option_map (λ p. further_terms p.pre a) o) [])
+framed-fit None a h = none
+framed-fit (Some q) a h = further-fit q.pre a h
 
 stated-fit : (h : History) (rule : RuleTree) (t : TripleTree) → IsRule rule → IsTriple t → All IsTerm (stated_terms h rule t)
 stated-fit h (Axiom a w form) t r f = none
 stated-fit h (Inst p words mems) t r f = both (map (λ x. OfWord x.1) words) (map (λ x. OfMem x.1) mems) (put-words-fit words r.1) (put-mems-fit mems r.2)
-stated-fit h (Frame p) t r f = framed-fit (h.theorem p) t f.pre
+stated-fit h (Frame p) t r f = framed-fit (h.theorem p) t.pre f.pre
 stated-fit h (Compose p q) t r f = none
 stated-fit h (ExtendCode p) t r f = none
 stated-fit h (Strengthen p) t r f = both (flat_map fact_terms t.facts) (assertion_terms t.pre) (facts-fit t.facts f.facts) (side-fits t.pre f.pre)

@@ -3,7 +3,7 @@ use Rattle.std.proofs.Common.{◌≡◌, suc, List, [], ◌∷◌, length, ap, r
 use Rattle.tailrec_lang.specs.Tree.{GroupTree}
 use Rattle.term_arena.specs.declared.node.Node.{Node}
 use Rattle.proof_text.specs.Line.{LineTree}
-use Rattle.checker.specs.Instance.{History, after_line}
+use Rattle.verdicts.specs.Instance.{History, after_line}
 use Rattle.short_text.specs.declared.short.Short.{Short}
 use Rattle.proof_v2.specs.Migration.{AreRightFor}
 

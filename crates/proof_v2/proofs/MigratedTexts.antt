@@ -6,11 +6,11 @@ use Rattle.group_text.specs.Version.{version_1}
 use Rattle.proof_text.specs.Line.{ProofTree}
 use Rattle.proof_text.proofs.ProofTexts.{proofs-once}
 use Rattle.proof_text.proofs.WholeLaws.{lines_known}
-use Rattle.checker.specs.declared.verdict.Verdict.{Verdict}
-use Rattle.checker.specs.declared.verdict.Verdict.TheVariants as verdict
-use Rattle.checker.specs.Accepts.{Accepts, IsAccepted}
-use Rattle.checker.specs.Instance.{no_rule}
-use Rattle.checker.specs.Verdicts.{AreRightSoFar, IsAcceptance, IsAcceptedText, Says}
+use Rattle.verdicts.specs.declared.verdict.Verdict.{Verdict}
+use Rattle.verdicts.specs.declared.verdict.Verdict.TheVariants as verdict
+use Rattle.verdicts.specs.Accepts.{Accepts, IsAccepted}
+use Rattle.verdicts.specs.Instance.{no_rule}
+use Rattle.verdicts.specs.Verdicts.{AreRightSoFar, IsAcceptance, IsAcceptedText, Says}
 use Rattle.proof_v2.specs.MigratedText.{IsMigratedText}
 use Rattle.proof_v2.specs.inner.Rewriting.{BecomesText, IsRightText}
 

@@ -6,14 +6,14 @@ use Rattle.term_arena.specs.declared.node.Node.{Node}
 use Rattle.term_arena.specs.Arena.{Extends, IsArena, Tree, trees_of}
 use Rattle.proof_text.specs.Line.{LineTree}
 use Rattle.proof_text.specs.LineLimits.{IsLine}
-use Rattle.checker.proofs.FirstLemmas.{after-more, all-more}
+use Rattle.verdicts.proofs.FirstLemmas.{after-more, all-more}
 use Rattle.short_text.specs.declared.short.Short.{Short}
 use Rattle.short_text.specs.ShortLimits.{IsShort}
 use Rattle.short_text.specs.Table.{IsTable}
-use Rattle.checker.specs.Instance.{History, after_line, after_lines, no_lines}
-use Rattle.term_bench.specs.Short.{IsFineShort, IsRightFor}
+use Rattle.verdicts.specs.Instance.{History, after_line, after_lines, no_lines}
+use Rattle.checker.specs.Short.{IsFineShort, IsRightFor}
 use Rattle.held_terms.specs.Terms.{AreTermsPutIn}
-use Rattle.term_bench.proofs.LargerTables.{fine_grows, right_grows}
+use Rattle.checker.proofs.LargerTables.{fine_grows, right_grows}
 use Rattle.held_terms.proofs.PutOrder.{terms-then}
 use Rattle.proof_v2.specs.Migration.{AreRightFor, IsMigrated}
 use Rattle.proof_v2.specs.ShortTerms.{line_terms, lines_terms}

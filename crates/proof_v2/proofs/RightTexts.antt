@@ -10,9 +10,9 @@ use Rattle.proof_text.specs.Proofs.{texts_of_proofs_in}
 use Rattle.proof_text.specs.FirstProofs.{AreReadIn, with_line}
 use Rattle.proof_text.proofs.Fronts.{text-front}
 use Rattle.proof_text.proofs.WholeLaws.{lines_known}
-use Rattle.checker.specs.Instance.{AreInstances, History, Instance, after_line, after_lines, no_lines, no_rule}
-use Rattle.checker.specs.Verdicts.{AreRightSoFar, IsRightSoFar}
-use Rattle.checker.proofs.FirstLemmas.{begins-first, first-right}
+use Rattle.verdicts.specs.Instance.{AreInstances, History, Instance, after_line, after_lines, no_lines, no_rule}
+use Rattle.verdicts.specs.Verdicts.{AreRightSoFar, IsRightSoFar}
+use Rattle.verdicts.proofs.FirstLemmas.{begins-first, first-right}
 use Rattle.proof_v2.specs.inner.Rewriting.{IsRightText}
 
 -- no line of it is bad

@@ -1,17 +1,19 @@
 -- Short lines of what was put into a table: each has its line's rule, citations and stated parts, and is within the limits.
-use Rattle.std.proofs.Common.{◌≡◌, ℕ, zero, suc, Bool, true, false, cond, Option, Some, List, [], ◌∷◌, map, drop, filter, length, refl, sym, ap, ◌∙◌, subst}
-use Rattle.std.specs.Prelude.{IsSomeAnd, not}
+use Rattle.std.proofs.Common.{◌≡◌, ℕ, zero, suc, Bool, true, false, cond, Option, None, Some, List, [], ◌∷◌, map, drop, filter, length, refl, sym, ap, ◌∙◌, subst}
+use Rattle.std.specs.Prelude.{IsSomeAnd, not, option_map, unwrap_or}
 use Rattle.std.specs.List.{AllByRecursion}
+use Rattle.rv_words.specs.declared.range.Range.{Range}
 use Rattle.word_terms.specs.Tree.{WordTree, MemTree}
 use Rattle.word_terms.specs.declared.code.Code.{Code}
 use Rattle.tailrec_lang.specs.Tree.{GroupTree}
 use Rattle.tailrec_lang.specs.Registers.{AreRegistersFrom}
+use Rattle.sep_assert.specs.declared.assertion.Assertion.{Assertion}
 use Rattle.sep_assert.specs.Tree.{AssertionTree}
 use Rattle.triple_kernel.specs.Tree.{FactTree, TripleTree}
 use Rattle.triple_kernel.specs.declared.form.Form.{Form}
 use Rattle.term_text.specs.Limits.{IsMem, IsWord}
 use Rattle.frame_compose.specs.Rules.{further, is_listed, rest_after}
-use Rattle.proof_text.specs.Line.{LineTree, States, Loop, Forget, RuleTree, Axiom, Inst, Frame, Compose, ExtendCode, Strengthen, Weaken, Discharge, UseExit}
+use Rattle.proof_text.specs.Line.{LineTree, States, Loop, Forget, Further, line_or_own, triple_or_own, RuleTree, Axiom, Inst, Frame, Compose, ExtendCode, Strengthen, Weaken, Discharge, UseExit}
 use Rattle.proof_text.specs.LineLimits.{AreRisingFrom, IsAssertion, IsFact, IsLine}
 use Rattle.proof_text.specs.inner.OwnCode.{IsOwnCode}
 use Rattle.term_arena.specs.declared.node.Node.{Node}
@@ -20,11 +22,14 @@ use Rattle.held_terms.specs.declared.held.HeldSide.{HeldSide}
 use Rattle.short_text.specs.declared.short.Short.{Short}
 use Rattle.short_text.specs.declared.short.Short.TheVariants as short
 use Rattle.short_text.specs.FullLine.{HasFurther}
-use Rattle.checker.specs.Instance.{History, Instance}
+use Rattle.verdicts.specs.Instance.{History, Instance}
 use Rattle.derived_triples.specs.Fine.{AreFineFacts, AreFineMems, AreFineRegisters, IsFineSide}
-use Rattle.term_bench.specs.Short.{IsRightFor}
+use Rattle.checker.specs.Short.{IsRightFor}
 use Rattle.held_terms.specs.inner.Put.{AreFactsPut, AreMemTermsPut, AreMemsPut, AreRegistersPut, IsSidePut}
-use Rattle.proof_v2.specs.inner.Shortening.{IsShortOf}
+use Rattle.term_arena.specs.Arena.{mem_of}
+use Rattle.held_terms.specs.Held.{register_of}
+use Rattle.proof_v2.specs.ShortTerms.{further_terms, line_terms}
+use Rattle.proof_v2.specs.inner.Shortening.{AreLineTermsPut, IsShortOf, IsShortRule}
 use Rattle.proof_v2.proofs.Fits.{numbers_same, rises-some}
 
 -- ---- parts of lists
@@ -75,13 +80,19 @@ module _ (h : History) (ns : List Node) (t : TripleTree) where
     fine = (fits.0.0, record { each_word = x.at; each_mem = y.at }, subst (AreRisingFrom IsWord 0) (sym x.is) fits.0.1, subst (AreRisingFrom IsMem 0) (sym y.is) fits.0.2);
   }
 
-  pub short_frame : (p : ℕ) (q : TripleTree) (rs : List (ℕ × ℕ)) (ks : List ℕ) → h.theorem p ≡ Some q → IsLine (States (Frame p) t)
-      → AreRegistersPut ns rs (further q.pre.regs t.pre.regs) → AreMemsPut ns ks (rest_after q.pre.mems t.pre.mems) → IsShortOf h ns (short.Frame p rs ks) (States (Frame p) t)
-  short_frame p q rs ks is fits x y = record {
+  pub short_frame : (p : ℕ) (own : AssertionTree) (rs : List (ℕ × ℕ)) (ks : List ℕ) → option_map (λ q. q.pre) (h.theorem p) ≡ Some own → IsLine (States (Frame p) t)
+      → AreRegistersPut ns rs (further own.regs t.pre.regs) → AreMemsPut ns ks (rest_after own.mems t.pre.mems) → IsShortOf h ns (short.Frame p rs ks) (States (Frame p) t)
+  short_frame p own rs ks is fits x y = record {
     full = (refl, tt);
-    further = subst (λ (o : Option TripleTree). IsSomeAnd o (λ q. HasFurther ns (short.Frame p rs ks) q t)) (sym is) (sym x.is, sym y.is);
-    fine = (fits.0, further-fine ns q.pre.regs t.pre.regs rs x fits.1.pre.registers fits.1.pre.words, mems-fine ns q.pre.mems t.pre.mems ks y fits.1.pre.mems);
+    further = of-theorem (h.theorem p) is;
+    fine = (fits.0, further-fine ns own.regs t.pre.regs rs x fits.1.pre.registers fits.1.pre.words, mems-fine ns own.mems t.pre.mems ks y fits.1.pre.mems);
   }
+    where
+      of-theorem : (o : Option TripleTree) → option_map (λ q. q.pre) o ≡ Some own → IsSomeAnd o (λ q. HasFurther ns (short.Frame p rs ks) q t)
+      of-theorem None e = absurd cc
+      of-theorem (Some q) e =
+          let pre : own ≡ q.pre = cc in
+          subst (λ (a : AssertionTree). (further a.regs t.pre.regs ≡ map (register_of ns) rs) × (rest_after a.mems t.pre.mems ≡ map (mem_of ns) ks)) pre (sym x.is, sym y.is)
 
   pub short_compose : (p q : ℕ) → IsLine (States (Compose p q) t) → IsShortOf h ns (short.Compose p q) (States (Compose p q) t)
   short_compose p q fits = record { full = (refl, tt); further = tt; fine = fits.0 }
@@ -122,6 +133,38 @@ module _ (h : History) (ns : List Node) where
   pub right_for : (g : GroupTree) (s : Short) (l : LineTree) → IsLine l → Instance g h l → IsShortOf h ns s l → IsRightFor g h ns s l
   right_for g s l fits right of = record { full = of.full; further = of.further; fits = fits; right = right }
 
-  -- a rule that is another
-  pub of_rule : (t : TripleTree) (rule known : RuleTree) (s : Short) → rule ≡ known → (IsLine (States known t) → IsShortOf h ns s (States known t)) → IsLine (States rule t) → IsShortOf h ns s (States rule t)
-  of_rule t rule known s e of fits = subst (λ (r : RuleTree). IsShortOf h ns s (States r t)) (sym e) (of (subst (λ (r : RuleTree). IsLine (States r t)) e fits))
+-- ---- a line in place of another
+
+-- a rule that is known
+module _ (kept : List (Option Assertion)) (t : TripleTree) (rule known : RuleTree) (is : rule ≡ known) where
+  pub of_rule : (ns : List Node) (s : Short) → IsShortRule kept ns known t s → IsShortRule kept ns rule t s
+  of_rule ns s of = subst (λ (r : RuleTree). IsShortRule kept ns r t s) (sym is) of
+
+  pub put_rule : (old new : List Node) → AreLineTermsPut kept old (States known t) new → AreLineTermsPut kept old (States rule t) new
+  put_rule old new put = subst (λ (r : RuleTree). AreLineTermsPut kept old (States r t) new) (sym is) put
+
+-- what is put beside a precondition
+pub framed_terms : (h : History) (p : ℕ) (own : AssertionTree) (t : TripleTree) → option_map (λ q. q.pre) (h.theorem p) ≡ Some own → line_terms h (States (Frame p) t) ≡ further_terms own t.pre
+framed_terms h p own t is = by (h.theorem p) is
+  where
+    by : (o : Option TripleTree) → option_map (λ q. q.pre) o ≡ Some own → unwrap_or (option_map (λ q. further_terms q.pre t.pre) o) [] ≡ further_terms own t.pre
+    by None e = absurd cc
+    by (Some q) e = let pre : q.pre ≡ own = cc in ap (λ (a : AssertionTree). further_terms a t.pre) pre
+
+-- no code is among a line's terms
+stated-own : (own : List Range) (all : Bool) (h : History) (rule : RuleTree) (t : TripleTree) → line_terms h (States rule (triple_or_own own all t)) ≡ line_terms h (States rule t)
+stated-own own all h (Axiom a w form) t = refl
+stated-own own all h (Inst p words mems) t = refl
+stated-own own all h (Frame p) t = refl
+stated-own own all h (Compose p q) t = refl
+stated-own own all h (ExtendCode p) t = refl
+stated-own own all h (Strengthen p) t = refl
+stated-own own all h (Weaken p) t = refl
+stated-own own all h (Discharge p) t = refl
+stated-own own all h (UseExit d e) t = refl
+
+pub line_own : (own : List Range) (all : Bool) (h : History) (l : LineTree) → line_terms h (line_or_own own all l) ≡ line_terms h l
+line_own own all h (States rule t) = stated-own own all h rule t
+line_own own all h (Loop d cited) = refl
+line_own own all h (Forget k) = refl
+line_own own all h (Further p t) = refl

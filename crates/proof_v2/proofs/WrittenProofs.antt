@@ -22,27 +22,30 @@ use Rattle.proof_v2.proofs.ShortTextParts.{group-of-2, table-and-lines}
 
 -- ---- a group that was written
 
-module _ (g : GroupTree) (ns : List Node) (ss : List Short) where
-  abbrev short : ShortProof
-  short = record { group = g; lines = map Term ns ++ map Proof ss }
+module _ (g : GroupTree) (ns : List Node) where
+  abbrev short : List Short → ShortProof
+  short ss = record { group = g; lines = map Term ns ++ map Proof ss }
 
-  pub proof-put : (old new : Progress) (out one two more : List ℕ) → IsGroupIn version_1 g → LinesAreShort g old new ns ss → ProofEnds new.rest → IsArena ns → length ns < 2 ^ 64
-      → one ≡ out ++ spell Start (group_tokens g) → two ≡ one ++ line_texts_by table_line ns → more ≡ two ++ line_texts_by (short_tokens g.code) ss → ProofIsPut g old new out more
-  proof-put old new out one two more fits lines over arena few first second third = record {
-    lines = lines.lines;
-    goes = lines.goes;
-    given = lines.given;
+  pub proof-put : (text : List ℕ) (old new : Progress) (out one two more : List ℕ) → IsGroupIn version_1 g → LinesAreShort g old new ns text → ProofEnds new.rest → IsArena ns → length ns < 2 ^ 64
+      → one ≡ out ++ spell Start (group_tokens g) → two ≡ one ++ line_texts_by table_line ns → more ≡ two ++ text → ProofIsPut g old new out more
+  proof-put text old new out one two more fits are over arena few first second third = record {
+    lines = are.lines;
+    goes = are.goes;
+    given = are.given;
     over = over;
-    short = short;
+    short = short ss;
     migrated = record {
       group = refl;
-      proof = subst (λ (ms : List Node). IsMigrated (with_lines g lines.lines) ms (proof_lines short.lines)) (sym (table-joined ns ss))
-          (subst (λ (ts : List Short). IsMigrated (with_lines g lines.lines) ns ts) (sym (lines-joined ns ss)) (is-migrated g ns ss lines.lines lines.migrated));
+      proof = subst (λ (ms : List Node). IsMigrated (with_lines g are.lines) ms (proof_lines (short ss).lines)) (sym (table-joined ns ss))
+          (subst (λ (ts : List Short). IsMigrated (with_lines g are.lines) ns ts) (sym (lines-joined ns ss)) (is-migrated g ns ss are.lines are.migrated));
     };
-    fit = record { group = group-of-2 g fits; lines = joined ns ss (table-of g ns ss lines.lines lines.migrated arena few) (lines-of g ns ss lines.lines lines.migrated few) };
+    fit = record { group = group-of-2 g fits; lines = joined ns ss (table-of g ns ss are.lines are.migrated arena few) (lines-of g ns ss are.lines are.migrated few) };
     put = written;
   }
     where
+      ss : List Short
+      ss = are.short
+
       head : List ℕ
       head = spell Start (group_tokens g)
 
@@ -52,8 +55,8 @@ module _ (g : GroupTree) (ns : List Node) (ss : List Short) where
       last : List ℕ
       last = line_texts_by (short_tokens g.code) ss
 
-      written : more ≡ out ++ text_of_short_proof short
+      written : more ≡ out ++ text_of_short_proof (short ss)
       written =
-          third ∙ ap (λ (zs : List ℕ). zs ++ last) (second ∙ ap (λ (zs : List ℕ). zs ++ table) first)
+          third ∙ (λ i. (second ∙ ap (λ (zs : List ℕ). zs ++ table) first) i ++ are.put i)
           ∙ append_assoc (out ++ head) table last ∙ append_assoc out head (table ++ last)
           ∙ ap (λ (zs : List ℕ). out ++ (head ++ zs)) (sym (table-and-lines g.code ns ss))

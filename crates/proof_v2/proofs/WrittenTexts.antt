@@ -11,8 +11,8 @@ use Rattle.proof_text.specs.Line.{ProofTree}
 use Rattle.proof_text.specs.LineGrammar.{IsProofOver}
 use Rattle.proof_text.specs.FirstProofs.{MayOpen, Progress, ProofEnds}
 use Rattle.proof_text.specs.Proofs.{proof_texts_by}
-use Rattle.checker.specs.Verdicts.{IsTextOf}
-use Rattle.checker.proofs.FirstLemmas.{all-more}
+use Rattle.verdicts.specs.Verdicts.{IsTextOf}
+use Rattle.verdicts.proofs.FirstLemmas.{all-more}
 use Rattle.short_text.specs.ShortProofs.{ShortProof, short_line_tokens, short_lines, text_of_short_proofs}
 use Rattle.proof_v2.specs.MigratedText.{IsMigratedProof}
 use Rattle.proof_v2.specs.inner.Rewriting.{BecomesText, GroupIsNext, GroupsSoFar, ProofIsPut, text_of_short_proof, with_lines}

@@ -1,5 +1,6 @@
 pub mod inner
 pub mod ShortTerms
+pub mod Preconditions
 pub mod Migration
 pub mod MigratedText
 pub mod Titles

@@ -2,8 +2,8 @@
 use Rattle.std.specs.Prelude.{◌≡◌, ℕ, List}
 use Rattle.std.specs.List.{AllZip}
 use Rattle.proof_text.specs.Line.{ProofTree}
-use Rattle.checker.specs.Accepts.{Accepts}
-use Rattle.checker.specs.Verdicts.{IsTextOf}
+use Rattle.verdicts.specs.Accepts.{Accepts}
+use Rattle.verdicts.specs.Verdicts.{IsTextOf}
 use Rattle.short_text.specs.ShortProofs.{AreShortProofs, ShortProof, proof_lines, table_of, text_of_short_proofs}
 use Rattle.proof_v2.specs.Migration.{IsMigrated}
 

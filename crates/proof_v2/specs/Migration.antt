@@ -3,9 +3,9 @@ use Rattle.std.specs.Prelude.{List, [], ◌∷◌}
 use Rattle.tailrec_lang.specs.Tree.{GroupTree}
 use Rattle.term_arena.specs.declared.node.Node.{Node}
 use Rattle.proof_text.specs.Line.{LineTree, ProofTree}
-use Rattle.checker.specs.Instance.{History, after_line, no_lines}
+use Rattle.verdicts.specs.Instance.{History, after_line, no_lines}
 use Rattle.short_text.specs.declared.short.Short.{Short}
-use Rattle.term_bench.specs.Short.{IsRightFor}
+use Rattle.checker.specs.Short.{IsRightFor}
 use Rattle.held_terms.specs.Terms.{AreTermsPutIn}
 use Rattle.proof_v2.specs.ShortTerms.{lines_terms}
 

@@ -3,21 +3,22 @@
 use Rattle.std.specs.Prelude.{ℕ, List, [], ◌∷◌, ◌++◌, flat_map, map, option_map, unwrap_or}
 use Rattle.term_text.specs.Limits.{FitsCond, FitsMem, FitsWord, depth_limit}
 use Rattle.term_arena.specs.Arena.{Tree, OfWord, OfMem, OfCond}
+use Rattle.sep_assert.specs.Tree.{AssertionTree}
 use Rattle.triple_kernel.specs.Tree.{TripleTree}
 use Rattle.frame_compose.specs.Rules.{further, rest_after}
 use Rattle.proof_text.specs.Line.{RuleTree, Axiom, Inst, Frame, Compose, ExtendCode, Strengthen, Weaken, Discharge, UseExit, LineTree, States, Loop, Forget, Further}
-use Rattle.checker.specs.Instance.{History, after_line}
+use Rattle.verdicts.specs.Instance.{History, after_line}
 use Rattle.held_terms.specs.Terms.{assertion_terms, fact_terms}
 
--- of a triple t by the rule `frame`: what its precondition has besides that of the theorem p
-abbrev pub further_terms : TripleTree → TripleTree → List Tree
-further_terms p t = map (λ r. OfWord r.1) (further p.pre.regs t.pre.regs) ++ map OfMem (rest_after p.pre.mems t.pre.mems)
+-- what a precondition has besides one that a theorem has
+abbrev pub further_terms : AssertionTree → AssertionTree → List Tree
+further_terms own all = map (λ r. OfWord r.1) (further own.regs all.regs) ++ map OfMem (rest_after own.mems all.mems)
 
 -- of a triple by a rule, after lines that left that history
 abbrev pub stated_terms : History → RuleTree → TripleTree → List Tree
 stated_terms h (Axiom address word form) t = []
 stated_terms h (Inst p words mems) t = map (λ x. OfWord x.1) words ++ map (λ x. OfMem x.1) mems
-stated_terms h (Frame p) t = unwrap_or (option_map (λ p. further_terms p t) (h.theorem p)) []
+stated_terms h (Frame p) t = unwrap_or (option_map (λ p. further_terms p.pre t.pre) (h.theorem p)) []
 stated_terms h (Compose p q) t = []
 stated_terms h (ExtendCode p) t = []
 stated_terms h (Strengthen p) t = flat_map fact_terms t.facts ++ assertion_terms t.pre

@@ -9,13 +9,13 @@ ghost use Rattle.group_text.specs.declared.version.Version.{Version as Known};
 ghost use Rattle.group_text.specs.declared.version.Version.TheVariants.{Two};
 ghost use Rattle.proof_text.specs.Answers.{OnBad, OnEnd, OnGiven};
 ghost use Rattle.proof_text.specs.FirstProofs.{ProofEnds};
-ghost use Rattle.checker.specs.inner.Checking.{IsSameText};
+ghost use Rattle.verdicts.specs.inner.Checking.{IsSameText};
 ghost use Rattle.proof_v2.specs.AnyReading.{AreLinesIn, AreSomeLinesIn, AreTermsIn, EndsAny, GivesGroupAny, GivesLines, HasGivenAny, StopsGroups, StopsLines, as_item, lines_of_last, reading_state, table_in};
 ghost use Rattle.proof_v2.specs.AnyText.{AnyProof};
-ghost use Rattle.proof_v2.specs.Titles.{any_version};
+ghost use Rattle.proof_v2.specs.Titles.{any_version, named_version};
 
 use crate::short_reading::{pass_short, short_group, short_line};
-use crate::title::{any_version, is_short};
+use crate::title::{any_version, is_short, named_version};
 use group_text::{TextFault, Version};
 use proof_text::{Line, Reader};
 use short_text::{Short, ShortLines};
@@ -166,6 +166,15 @@ impl<'a> AnyReader<'a> {
     {
         self.reader.place()
     }
+}
+
+/// Stands before the first line of a text, to read it in the version that this line names.
+pub fn reader_of<'a>(alloc: Global, text: &'a [u8]) -> AnyReader<'a>
+    ensures text { result.progress.text ≡ text.now }
+    ensures version { result.progress.version ≡ named_version text.now }
+    ensures given { HasGivenAny result.progress.version [] result }
+{
+    AnyReader::of_version(alloc, text, named_version(text))
 }
 
 /// The next group of a text whose lines state whole triples. Nothing is kept of these.

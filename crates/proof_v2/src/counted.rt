@@ -4,16 +4,18 @@ ghost use Rattle.std.specs.Prelude.{◌≡◌, ℕ, List as Items, IfErr, IfOk};
 ghost use Rattle.elf_image.specs.Fault.{IsReadable};
 ghost use Rattle.elf_image.specs.Image.{image_of};
 ghost use Rattle.group_text.specs.Version.{version_2};
-ghost use Rattle.checker.specs.LineRules.{IsAcceptedOver};
-ghost use Rattle.checker.specs.Verdicts.{IsAcceptance, Says};
-ghost use Rattle.term_bench.specs.ShortRules.{short_rules};
+ghost use Rattle.verdicts.specs.LineRules.{IsAcceptedOver};
+ghost use Rattle.verdicts.specs.Verdicts.{IsAcceptance, Says};
+ghost use Rattle.checker.specs.ShortRules.{short_rules};
 ghost use Rattle.proof_v2.specs.MigratedText.{IsMigratedText};
 
 use crate::texts::rewritten;
-use checker::{Verdict, check_text};
+use checker::check_image;
 use elf_image::Image;
+use proof_text::Version;
 use rv_words::Bytes;
 use std::alloc::Global;
+use verdicts::Verdict;
 
 /// A text of version 2, with how many groups and proof lines it has.
 #[derive(Drop)]
@@ -50,7 +52,7 @@ pub fn migrate_image(alloc: Global, image: &Image, proof: &[u8]) -> Result<Count
         → IfErr result (λ v. Says elf proof.now v) }
     ensures no_acceptance { IfErr result (λ v. IsAcceptance v → ⊥) }
 {
-    match check_text(alloc, image, proof) {
+    match check_image(alloc, image, proof, Version::One) {
         Verdict::Accepted { functions, lines } => match rewritten(alloc, proof) {
             Ok(text) => Ok(CountedText {
                 text,

@@ -1,8 +1,8 @@
 //! Laws of migrated proofs. These functions do nothing: their contracts are the laws.
 
 ghost use Rattle.std.specs.Prelude.{◌≡◌, ◌<◌, ◌^◌, ℕ, All, List, [], length};
-ghost use Rattle.checker.specs.Accepts.{IsAccepted};
-ghost use Rattle.checker.specs.LineRules.{IsProvedOver};
+ghost use Rattle.verdicts.specs.Accepts.{IsAccepted};
+ghost use Rattle.verdicts.specs.LineRules.{IsProvedOver};
 ghost use Rattle.proof_text.specs.Line.{ProofTree};
 ghost use Rattle.short_text.specs.declared.short.Short.{Short};
 ghost use Rattle.short_text.specs.ShortLimits.{IsShort};
@@ -10,8 +10,8 @@ ghost use Rattle.short_text.specs.ShortProofs.{AreShortLines, ShortProof};
 ghost use Rattle.short_text.specs.Table.{IsTable};
 ghost use Rattle.term_arena.specs.declared.node.Node.{Node};
 ghost use Rattle.term_arena.specs.Arena.{IsArena, Tree};
-ghost use Rattle.term_bench.specs.Short.{IsFineShort};
-ghost use Rattle.term_bench.specs.ShortRules.{short_rules};
+ghost use Rattle.checker.specs.Short.{IsFineShort};
+ghost use Rattle.checker.specs.ShortRules.{short_rules};
 ghost use Rattle.held_terms.specs.Terms.{AreTermsPutIn};
 ghost use Rattle.proof_v2.specs.MigratedText.{IsMigratedProof};
 ghost use Rattle.proof_v2.specs.Migration.{IsMigrated};

@@ -1,25 +1,28 @@
 //! The short line for a line of version 1.
 #![tactic(auto, using(held_terms::proofs::GrowthLemmas::extends_next, held_terms::proofs::GrowthLemmas::extends_none))]
 
-ghost use Rattle.std.specs.Prelude.{◌≡◌, ◌++◌, IfOk, List as Items, Some as Just, flat_map, map};
+ghost use Rattle.std.specs.Prelude.{◌≡◌, ◌++◌, Bool, IfOk, List as Items, Some as Just, flat_map, map, option_map};
+ghost use Rattle.sep_assert.specs.Tree.{assertion_tree};
+ghost use Rattle.tailrec_lang.specs.Tree.{GroupTree};
 ghost use Rattle.term_arena.specs.declared.node.Node.{Node};
 ghost use Rattle.triple_kernel.specs.Tree.{TripleTree, triple_tree};
-ghost use Rattle.proof_text.specs.Line.{Discharge, ExtendCode, Frame, Inst, States, Strengthen, Weaken, line_tree, mem_put_in, rule_tree, word_put_in};
-ghost use Rattle.proof_text.specs.LineLimits.{IsLine};
-ghost use Rattle.checker.specs.Bench.{group_of, history_of};
-ghost use Rattle.checker.specs.Instance.{History, Instance, Meets};
+ghost use Rattle.proof_text.specs.Line.{Discharge, ExtendCode, Frame, Inst, States, Strengthen, Weaken, line_tree, mem_put_in, rule_tree, spelled_tree, word_put_in};
+ghost use Rattle.verdicts.specs.Instance.{History};
 ghost use Rattle.term_arena.specs.Arena.{Extends, OfMem, OfWord};
-ghost use Rattle.term_bench.specs.Short.{IsFineShort, IsRightFor};
+ghost use Rattle.short_text.specs.SpelledShort.{short_or_own};
+ghost use Rattle.checker.specs.Short.{IsFineShort, IsRightFor};
 ghost use Rattle.held_terms.specs.Terms.{AreTermsPutIn, assertion_terms, fact_terms};
+ghost use Rattle.proof_v2.specs.Preconditions.{ArePreconditions, MayFollow};
 ghost use Rattle.proof_v2.specs.ShortTerms.{further_terms, line_terms};
-ghost use Rattle.proof_v2.specs.inner.Shortening.{IsShortOf};
+ghost use Rattle.proof_v2.specs.inner.Shortening.{AreLineTermsPut, IsPreKept, IsShortFor, IsShortRule};
 
 use crate::further::{put_further_mems, put_further_registers};
-use checker::Bench;
+use crate::preconditions::precondition;
 use derived_triples::{put_mem_terms, put_word_terms};
 use held_terms::{put_facts, put_side};
-use proof_text::{Line, Rule};
+use proof_text::{Line, Rule, SpelledLine};
 use rv_words::{List, NoMemory};
+use sep_assert::Assertion;
 use short_text::Short;
 use std::alloc::Global;
 use std::sync::ledger::Ledger;
@@ -28,47 +31,54 @@ use triple_kernel::Triple;
 use word_terms::{Sub, copy_code};
 
 /// The short line for which the line is the full one, over a table in which its terms stand from
-/// then on.
-pub fn short_line<'g, L: Ledger>(
+/// then on, behind lines whose theorems have these preconditions. Where the line leaves the group's
+/// own code out, so does the short line.
+pub fn short_line<L: Ledger>(
     alloc: Global,
     arena: &mut Arena,
-    bench: &Bench<'g>,
-    line: &Line,
+    kept: &[Option<Assertion>],
+    line: &SpelledLine,
     steps: &mut Steps<L>,
 ) -> Result<Short, NoMemory>
-    requires fits { IsLine (line_tree line.now) }
-    requires instance { Instance (group_of bench.now) (history_of bench.now) (line_tree line.now) }
+    requires { (g : GroupTree) × (h : History) × MayFollow kept.now line.now g h }
     ensures right { IfOk result (λ s.
-        IsRightFor (group_of bench.now) (history_of bench.now) arena.new s (line_tree line.now)) }
-    ensures fine { IfOk result (λ s. IsFineShort arena.new s) }
+        (g : GroupTree) (h : History)
+        → MayFollow kept.now line.now g h
+        → IsRightFor g h arena.new (short_or_own g.code line.now.all s)
+        (spelled_tree g.code line.now)) }
+    ensures fine { IfOk result (λ s.
+        (g : GroupTree) (h : History)
+        → MayFollow kept.now line.now g h
+        → IsFineShort arena.new (short_or_own g.code line.now.all s)) }
     ensures order { IfOk result (λ _.
-        AreTermsPutIn arena.old (line_terms (history_of bench.now) (line_tree line.now))
-        arena.new) }
+        (g : GroupTree) (h : History)
+        → MayFollow kept.now line.now g h
+        → AreTermsPutIn arena.old (line_terms h (spelled_tree g.code line.now)) arena.new) }
     ensures grows { Extends arena.old arena.new }
 {
-    let short = shortened(alloc, arena, bench, line, steps)?;
+    let short = shortened(alloc, arena, kept, line, steps)?;
     Ok(short)
 }
 
 /// The line without what can be computed.
-fn shortened<'g, L: Ledger>(
+fn shortened<L: Ledger>(
     alloc: Global,
     arena: &mut Arena,
-    bench: &Bench<'g>,
-    line: &Line,
+    kept: &[Option<Assertion>],
+    line: &SpelledLine,
     steps: &mut Steps<L>,
 ) -> Result<Short, NoMemory>
-    requires fits { IsLine (line_tree line.now) }
-    requires instance { Instance (group_of bench.now) (history_of bench.now) (line_tree line.now) }
+    requires { (g : GroupTree) × (h : History) × MayFollow kept.now line.now g h }
     ensures line { IfOk result (λ s.
-        IsShortOf (history_of bench.now) arena.new s (line_tree line.now)) }
+        (h : History)
+        → ArePreconditions kept.now h
+        → IsShortFor h arena.new line.now.all s (line_tree line.now.line)) }
     ensures order { IfOk result (λ _.
-        AreTermsPutIn arena.old (line_terms (history_of bench.now) (line_tree line.now))
-        arena.new) }
+        AreLineTermsPut kept.now arena.old (line_tree line.now.line) arena.new) }
     ensures grows { Extends arena.old arena.new }
 {
-    match line {
-        Line::States { rule, stated } => short_rule(alloc, arena, bench, rule, stated, steps),
+    match &line.line {
+        Line::States { rule, stated } => short_rule(alloc, arena, kept, rule, stated, steps),
         Line::Loop { def, cited } => short_loop(alloc, *def, cited.as_slice()),
         Line::Forget(k) => Ok(Short::Forget(*k)),
         Line::Further { .. } => unreachable!(),
@@ -76,30 +86,26 @@ fn shortened<'g, L: Ledger>(
 }
 
 /// .. for a triple that is stated by a rule.
-fn short_rule<'g, L: Ledger>(
+fn short_rule<L: Ledger>(
     alloc: Global,
     arena: &mut Arena,
-    bench: &Bench<'g>,
+    kept: &[Option<Assertion>],
     rule: &Rule,
     stated: &Triple,
     steps: &mut Steps<L>,
 ) -> Result<Short, NoMemory>
-    requires fits { IsLine (States (rule_tree rule.now) (triple_tree stated.now)) }
-    requires meets { Meets (group_of bench.now) (history_of bench.now) (rule_tree rule.now)
-        (triple_tree stated.now) }
-    ensures line { IfOk result (λ s.
-        IsShortOf (history_of bench.now) arena.new s
-        (States (rule_tree rule.now) (triple_tree stated.now))) }
+    requires { IsPreKept kept.now (rule_tree rule.now) }
+    ensures line { IfOk result
+        (IsShortRule kept.now arena.new (rule_tree rule.now) (triple_tree stated.now)) }
     ensures order { IfOk result (λ _.
-        AreTermsPutIn arena.old
-        (line_terms (history_of bench.now) (States (rule_tree rule.now) (triple_tree stated.now)))
-        arena.new) }
+        AreLineTermsPut kept.now arena.old
+        (States (rule_tree rule.now) (triple_tree stated.now)) arena.new) }
     ensures grows { Extends arena.old arena.new }
 {
     match rule {
         Rule::Axiom(address, word, form) => Ok(Short::Axiom(*address, *word, *form)),
         Rule::Inst(p, sub) => short_inst(alloc, arena, *p, sub, steps),
-        Rule::Frame(p) => short_frame(alloc, arena, bench, *p, stated, steps),
+        Rule::Frame(p) => short_frame(alloc, arena, kept, *p, stated, steps),
         Rule::ExtendCode(p) => short_extension(alloc, *p, stated),
         Rule::Compose(p, q) => Ok(Short::Compose(*p, *q)),
         Rule::Strengthen(p) => short_strengthened(alloc, arena, *p, stated, steps),
@@ -118,10 +124,9 @@ fn short_inst<L: Ledger>(
     steps: &mut Steps<L>,
 ) -> Result<Short, NoMemory>
     ensures line { IfOk result (λ s.
-        (h : History) (t : TripleTree)
-        → IsLine (States (Inst p (map word_put_in sub.now.words) (map mem_put_in sub.now.mems)) t)
-        → IsShortOf h arena.new s (States
-        (Inst p (map word_put_in sub.now.words) (map mem_put_in sub.now.mems)) t)) }
+        (h : History) (all : Bool) (t : TripleTree)
+        → IsShortFor h arena.new all s
+        (States (Inst p (map word_put_in sub.now.words) (map mem_put_in sub.now.mems)) t)) }
     ensures order { IfOk result (λ _. AreTermsPutIn arena.old
         (map (λ x. OfWord x.1) (map word_put_in sub.now.words)
         ++ map (λ x. OfMem x.1) (map mem_put_in sub.now.mems)) arena.new) }
@@ -133,63 +138,59 @@ fn short_inst<L: Ledger>(
 }
 
 /// .. for a triple that is stated from a theorem with further registers and memories.
-fn short_frame<'g, L: Ledger>(
+fn short_frame<L: Ledger>(
     alloc: Global,
     arena: &mut Arena,
-    bench: &Bench<'g>,
+    kept: &[Option<Assertion>],
     p: u64,
     stated: &Triple,
     steps: &mut Steps<L>,
 ) -> Result<Short, NoMemory>
-    requires { Meets (group_of bench.now) (history_of bench.now) (Frame p)
-        (triple_tree stated.now) }
-    ensures line { IfOk result (λ s.
-        IsLine (States (Frame p) (triple_tree stated.now))
-        → IsShortOf (history_of bench.now) arena.new s
-        (States (Frame p) (triple_tree stated.now))) }
+    requires { IsPreKept kept.now (Frame p) }
+    ensures line { IfOk result
+        (IsShortRule kept.now arena.new (Frame p) (triple_tree stated.now)) }
     ensures order { IfOk result (λ _.
-        AreTermsPutIn arena.old
-        (line_terms (history_of bench.now) (States (Frame p) (triple_tree stated.now))) arena.new) }
+        AreLineTermsPut kept.now arena.old (States (Frame p) (triple_tree stated.now))
+        arena.new) }
     ensures grows { Extends arena.old arena.new }
 {
-    let held = bench.theorem(alloc, p)?;
-    match held {
-        Some(theorem) => short_further(alloc, arena, p, theorem.triple(), stated, steps),
+    match precondition(kept, p) {
+        Some(own) => short_further(alloc, arena, p, own, stated, steps),
         None => unreachable!(),
     }
 }
 
-/// .. for one with further registers and memories than the triple of theorem p.
+/// .. for one with further registers and memories than that precondition of theorem p.
 fn short_further<L: Ledger>(
     alloc: Global,
     arena: &mut Arena,
     p: u64,
-    own: &Triple,
+    own: &Assertion,
     stated: &Triple,
     steps: &mut Steps<L>,
 ) -> Result<Short, NoMemory>
     ensures line { IfOk result (λ s.
-        (h : History)
-        → h.theorem p ≡ Just (triple_tree own.now)
-        → IsLine (States (Frame p) (triple_tree stated.now))
-        → IsShortOf h arena.new s (States (Frame p) (triple_tree stated.now))) }
+        (h : History) (all : Bool)
+        → option_map (λ q. q.pre) (h.theorem p) ≡ Just (assertion_tree own.now)
+        → IsShortFor h arena.new all s (States (Frame p) (triple_tree stated.now))) }
     ensures order { IfOk result (λ _.
-        AreTermsPutIn arena.old (further_terms (triple_tree own.now) (triple_tree stated.now))
-        arena.new) }
+        AreTermsPutIn arena.old
+        (further_terms (assertion_tree own.now) (assertion_tree stated.now.pre)) arena.new) }
     ensures grows { Extends arena.old arena.new }
 {
+    let pre = &stated.pre;
     let regs = put_further_registers(
         alloc,
         arena,
-        own.pre.regs.as_slice(),
-        stated.pre.regs.as_slice(),
+        own.regs.as_slice(),
+        pre.regs.as_slice(),
         steps,
     )?;
     let mems = put_further_mems(
         alloc,
         arena,
-        own.pre.mems.as_slice(),
-        stated.pre.mems.as_slice(),
+        own.mems.as_slice(),
+        pre.mems.as_slice(),
         steps,
     )?;
     Ok(Short::Frame(p, regs, mems))
@@ -198,9 +199,8 @@ fn short_further<L: Ledger>(
 /// .. for a triple over further code.
 fn short_extension(alloc: Global, p: u64, stated: &Triple) -> Result<Short, NoMemory>
     ensures { IfOk result (λ s.
-        (h : History) (ns : Items Node)
-        → IsLine (States (ExtendCode p) (triple_tree stated.now))
-        → IsShortOf h ns s (States (ExtendCode p) (triple_tree stated.now))) }
+        (h : History) (ns : Items Node) (all : Bool)
+        → IsShortFor h ns all s (States (ExtendCode p) (triple_tree stated.now))) }
 {
     let code = copy_code(alloc, &stated.code)?;
     Ok(Short::ExtendCode(p, code))
@@ -215,9 +215,8 @@ fn short_strengthened<L: Ledger>(
     steps: &mut Steps<L>,
 ) -> Result<Short, NoMemory>
     ensures line { IfOk result (λ s.
-        (h : History)
-        → IsLine (States (Strengthen p) (triple_tree stated.now))
-        → IsShortOf h arena.new s (States (Strengthen p) (triple_tree stated.now))) }
+        (h : History) (all : Bool)
+        → IsShortFor h arena.new all s (States (Strengthen p) (triple_tree stated.now))) }
     ensures order { IfOk result (λ _.
         AreTermsPutIn arena.old
         (flat_map fact_terms (triple_tree stated.now).facts
@@ -238,9 +237,8 @@ fn short_weakened<L: Ledger>(
     steps: &mut Steps<L>,
 ) -> Result<Short, NoMemory>
     ensures line { IfOk result (λ s.
-        (h : History)
-        → IsLine (States (Weaken p) (triple_tree stated.now))
-        → IsShortOf h arena.new s (States (Weaken p) (triple_tree stated.now))) }
+        (h : History) (all : Bool)
+        → IsShortFor h arena.new all s (States (Weaken p) (triple_tree stated.now))) }
     ensures order { IfOk result (λ _.
         AreTermsPutIn arena.old
         (flat_map fact_terms (triple_tree stated.now).facts
@@ -261,9 +259,8 @@ fn short_discharged<L: Ledger>(
     steps: &mut Steps<L>,
 ) -> Result<Short, NoMemory>
     ensures line { IfOk result (λ s.
-        (h : History)
-        → IsLine (States (Discharge p) (triple_tree stated.now))
-        → IsShortOf h arena.new s (States (Discharge p) (triple_tree stated.now))) }
+        (h : History) (all : Bool)
+        → IsShortFor h arena.new all s (States (Discharge p) (triple_tree stated.now))) }
     ensures order { IfOk result (λ _.
         AreTermsPutIn arena.old (flat_map fact_terms (triple_tree stated.now).facts) arena.new) }
     ensures grows { Extends arena.old arena.new }

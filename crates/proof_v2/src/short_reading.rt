@@ -11,7 +11,7 @@ ghost use Rattle.proof_text.specs.Answers.{NoItemOver, OnBad, OnEnd, OnGiven};
 ghost use Rattle.proof_text.specs.FirstProofs.{ProofEnds, with_line};
 ghost use Rattle.short_text.specs.ShortProofs.{ShortProof, short_lines, short_texts};
 ghost use Rattle.short_text.specs.SpelledShort.{spelled_short};
-ghost use Rattle.checker.specs.inner.Checking.{IsSameText};
+ghost use Rattle.verdicts.specs.inner.Checking.{IsSameText};
 ghost use Rattle.proof_v2.specs.AnyReading.{AreLinesIn, AreSomeLinesIn, AreTermsIn, EndsAny, GivesGroupAny, GivesLines, HasGivenAny, StopsGroups, StopsLines, as_item, reading_state};
 ghost use Rattle.proof_v2.specs.inner.ShortReading.{IsOpen, Stays};
 

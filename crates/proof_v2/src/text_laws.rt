@@ -4,11 +4,11 @@ ghost use Rattle.std.specs.Prelude.{◌≡◌, ℕ, List, length};
 ghost use Rattle.group_text.specs.Version.{version_2};
 ghost use Rattle.proof_text.specs.Line.{ProofTree};
 ghost use Rattle.proof_text.specs.Proofs.{groups_of};
-ghost use Rattle.checker.specs.LineRules.{IsAcceptedOver, IsTextOver};
-ghost use Rattle.checker.specs.Verdicts.{IsTextOf, Says, line_count};
-ghost use Rattle.checker.specs.declared.verdict.Verdict.TheVariants.{Accepted};
+ghost use Rattle.verdicts.specs.LineRules.{IsAcceptedOver, IsTextOver};
+ghost use Rattle.verdicts.specs.Verdicts.{IsTextOf, Says, line_count};
+ghost use Rattle.verdicts.specs.declared.verdict.Verdict.TheVariants.{Accepted};
 ghost use Rattle.short_text.specs.ShortProofs.{ShortProof, short_lines};
-ghost use Rattle.term_bench.specs.ShortRules.{short_rules};
+ghost use Rattle.checker.specs.ShortRules.{short_rules};
 ghost use Rattle.proof_v2.specs.MigratedText.{IsMigratedText};
 
 /// A text of version 1 that is accepted for a file becomes one of version 2 that is accepted for

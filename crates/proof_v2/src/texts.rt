@@ -6,30 +6,32 @@ ghost use Rattle.group_text.specs.Version.{version_1, version_2};
 ghost use Rattle.group_text.specs.declared.version.Version.TheVariants.{One};
 ghost use Rattle.tailrec_lang.specs.Tree.{group_tree};
 ghost use Rattle.proof_text.specs.FirstProofs.{HasGiven, ProofEnds};
-ghost use Rattle.proof_text.specs.Line.{ProofTree, line_tree};
+ghost use Rattle.proof_text.specs.Line.{ProofTree, spelled_tree};
 ghost use Rattle.proof_text.specs.Proofs.{line_texts_by};
-ghost use Rattle.checker.specs.declared.verdict.Verdict.{Verdict as VerdictOf};
-ghost use Rattle.checker.specs.Bench.{group_of, history_of};
-ghost use Rattle.checker.specs.Instance.{Instance, after_line};
-ghost use Rattle.checker.specs.LineRules.{IsAcceptedOver};
-ghost use Rattle.checker.specs.Verdicts.{IsAcceptance, Says};
-ghost use Rattle.short_text.specs.ShortSpelling.{short_tokens, table_line};
-ghost use Rattle.term_arena.specs.Arena.{IsArena};
-ghost use Rattle.term_bench.specs.ShortRules.{short_rules};
+ghost use Rattle.verdicts.specs.declared.verdict.Verdict.{Verdict as VerdictOf};
+ghost use Rattle.verdicts.specs.Instance.{History};
+ghost use Rattle.verdicts.specs.LineRules.{IsAcceptedOver};
+ghost use Rattle.verdicts.specs.Verdicts.{IsAcceptance, Says};
+ghost use Rattle.short_text.specs.ShortSpelling.{table_line};
+ghost use Rattle.term_arena.specs.Arena.{Extends, IsArena};
+ghost use Rattle.checker.specs.ShortRules.{short_rules};
 ghost use Rattle.proof_v2.specs.MigratedText.{IsMigratedText};
-ghost use Rattle.proof_v2.specs.inner.Rewriting.{BecomesText, GroupIsNext, HasOpened, HasPassed, IsRightText, LineIsNext, LinesAreShort, ProofIsPut};
+ghost use Rattle.proof_v2.specs.Preconditions.{MayFollow};
+ghost use Rattle.proof_v2.specs.inner.Rewriting.{BecomesText, GroupIsNext, HasOpened, HasPassed, IsRightText, LineIsNext, LineIsPut, LinesAreShort, ProofIsPut};
 
 use crate::lines::short_line;
-use checker::{Bench, Verdict, check_bytes};
-use proof_text::{Line, Reader, TextFault, Version, put_end, put_group, put_title};
+use crate::preconditions::keep;
+use checker::check_bytes;
+use proof_text::{Reader, SpelledLine, TextFault, Version, put_end, put_group, put_title};
 use rv_words::{Bytes, List, NoMemory};
-use short_text::{Short, law_of_short_parts, put_short_line, put_table_line};
+use sep_assert::Assertion;
+use short_text::{law_of_short_parts, put_short_line, put_table_line};
 use std::alloc::Global;
 use std::marker::Brand;
 use std::sync::ledger::{Blank, Ledger};
 use tailrec_lang::Group;
 use term_arena::{Arena, Steps};
-use triple_kernel::RuleFault;
+use verdicts::Verdict;
 
 /// The text of version 2 that a text of version 1 becomes, where it is accepted for an ELF file: a
 /// table for each group, of the terms of its lines in the order in which they are first used, and a
@@ -139,42 +141,72 @@ fn put_counted<L: Ledger>(
     let lines = short_lines(alloc, reader, group, &mut arena, &mut steps)?;
     put_group(out, group)?;
     put_table(out, &arena, &mut steps)?;
-    put_lines(out, group, lines.as_slice())
+    out.append(lines)
 }
 
-/// The short lines of the group's proof, over a table in which their terms stand from then on.
+/// The text of the short lines of the group's proof, over a table in which their terms stand from
+/// then on. Of the lines before a line only the preconditions of their theorems are kept.
 fn short_lines<L: Ledger>(
     alloc: Global,
     reader: &mut Reader<'_>,
     group: &Group,
     arena: &mut Arena,
     steps: &mut Steps<L>,
-) -> Result<List<Short>, NoMemory>
+) -> Result<Bytes, NoMemory>
     requires text { IsRightText reader.old.text }
     requires version { reader.old.version ≡ One }
     requires fits { IsGroupIn version_1 (group_tree group.now) }
     requires given { HasOpened (group_tree group.now) reader.old }
     requires empty { arena.old ≡ [] }
-    ensures short { IfOk result (λ ss.
-        LinesAreShort (group_tree group.now) reader.old reader.new arena.new ss) }
+    ensures short { IfOk result (λ text.
+        LinesAreShort (group_tree group.now) reader.old reader.new arena.new text) }
     ensures over { OnOk result (ProofEnds reader.new.rest) }
 {
-    let mut bench = Bench::new(alloc, group)?;
+    let mut kept = List::new(alloc);
     let mut lines = List::new(alloc);
     while let Some(line) = next_line(alloc, reader, group)? {
-        let short = short_line(alloc, arena, &bench, &line, steps)?;
-        lines.push(short)?;
-        judge(alloc, &mut bench, line)?;
+        put_short(
+            alloc,
+            arena,
+            kept.as_slice(),
+            group,
+            &line,
+            &mut lines,
+            steps,
+        )?;
+        keep(&mut kept, line.line)?;
     }
     Ok(lines)
 }
 
-/// The next line of the group's proof.
+/// Writes the short line of a line of the group's proof, over a table in which its terms stand from
+/// then on.
+fn put_short<L: Ledger>(
+    alloc: Global,
+    arena: &mut Arena,
+    kept: &[Option<Assertion>],
+    group: &Group,
+    line: &SpelledLine,
+    out: &mut Bytes,
+    steps: &mut Steps<L>,
+) -> Result<(), NoMemory>
+    requires { (h : History) × MayFollow kept.now line.now (group_tree group.now) h }
+    ensures put { OnOk result ((h : History)
+        → MayFollow kept.now line.now (group_tree group.now) h
+        → LineIsPut (group_tree group.now) h (spelled_tree (group_tree group.now).code line.now)
+        arena.old arena.new out.old out.new) }
+    ensures grows { Extends arena.old arena.new }
+{
+    let short = short_line(alloc, arena, kept, line, steps)?;
+    put_short_line(out, group, &short, line.all)
+}
+
+/// The next line of the group's proof, as it is spelled.
 fn next_line(
     alloc: Global,
     reader: &mut Reader<'_>,
     group: &Group,
-) -> Result<Option<Line>, NoMemory>
+) -> Result<Option<SpelledLine>, NoMemory>
     requires text { IsRightText reader.old.text }
     requires version { reader.old.version ≡ One }
     requires fits { IsGroupIn version_1 (group_tree group.now) }
@@ -183,24 +215,10 @@ fn next_line(
         × (p.group ≡ group_tree group.now) }
     ensures { IfOk result (λ found. LineIsNext (group_tree group.now) reader.old reader.new found) }
 {
-    match reader.line(alloc, group) {
+    match reader.spelled_line(alloc, group) {
         Ok(found) => Ok(found),
         Err(TextFault::Bad(_)) => unreachable!(),
         Err(TextFault::NoMemory) => Err(NoMemory),
-    }
-}
-
-/// Judges a line that is right.
-fn judge(alloc: Global, bench: &mut Bench<'_>, line: Line) -> Result<(), NoMemory>
-    requires { Instance (group_of bench.old) (history_of bench.old) (line_tree line) }
-    ensures group { OnOk result (bench.new.0 ≡ bench.old.0) }
-    ensures after { OnOk result (history_of bench.new
-        ≡ after_line (history_of bench.old) (line_tree line)) }
-{
-    match bench.judge(alloc, line) {
-        Ok(()) => Ok(()),
-        Err(RuleFault::NoInstance) => unreachable!(),
-        Err(RuleFault::NoMemory) => Err(NoMemory),
     }
 }
 
@@ -218,17 +236,6 @@ fn put_table<L: Ledger>(
     for k in 0..count {
         let node = arena.node(k, steps);
         put_table_line(out, node)?;
-    }
-    Ok(())
-}
-
-/// Writes short lines of the group's proof.
-fn put_lines(out: &mut Bytes, group: &Group, lines: &[Short]) -> Result<(), NoMemory>
-    ensures { OnOk result (out.new
-        ≡ out.old ++ line_texts_by (short_tokens (group_tree group.now).code) lines.now) }
-{
-    for line in lines {
-        put_short_line(out, group, line)?;
     }
     Ok(())
 }

@@ -70,7 +70,7 @@ fn title_size(size: u64) -> u64
 }
 
 /// The version that the first line of what a name holds names, up to so many bytes.
-pub fn held_version<S: Shelf>(
+pub(crate) fn held_version<S: Shelf>(
     alloc: Global,
     name: &str,
     size: u64,

@@ -8,9 +8,11 @@ ghost use Rattle.mc_text.specs.Tokens.{Atom, Semi, spell};
 ghost use Rattle.mc_text.specs.declared.token.Before.TheVariants.{Start};
 ghost use Rattle.group_text.specs.Spelling.{address, line, number};
 ghost use Rattle.term_text.specs.Spelling.{form};
+ghost use Rattle.proof_text.specs.Line.{code_or_own};
 ghost use Rattle.proof_text.specs.LineSpelling.{code_tokens, form_tokens};
 ghost use Rattle.tailrec_lang.specs.Tree.{group_tree};
 ghost use Rattle.short_text.specs.ShortSpelling.{held_fact_tokens, held_register_tokens, held_side_tokens, held_values_tokens, list_tokens, mem_place_tokens, node_tokens, short_tokens, table_line, term_number, word_place_tokens};
+ghost use Rattle.short_text.specs.SpelledShort.{short_or_own};
 
 use crate::short::Short;
 use held_terms::{HeldFact, HeldSide, HeldValues};
@@ -47,15 +49,18 @@ fn put_node_line(pen: &mut Pen<'_>, node: Node) -> Result<(), NoMemory>
     pen.eol()
 }
 
-/// Prints a short line of the group's proof at the beginning of a line.
+/// Prints a short line of the group's proof at the beginning of a line. Where `all` is true, the
+/// code of a line that extends a theorem's code says nothing, and is the group's own.
 #[tactic(auto, using(mc_text::proofs::Printed::printed_bytes, mc_text::proofs::Printed::prints))]
-pub fn put_short_line(out: &mut Bytes, g: &Group, line: &Short) -> Result<(), NoMemory>
+pub fn put_short_line(out: &mut Bytes, g: &Group, line: &Short, all: bool) -> Result<(), NoMemory>
     ensures ok { OnOk result (out.new
-        ≡ out.old ++ spell Start (short_tokens (group_tree g.now).code line.now)) }
+        ≡ out.old
+        ++ spell Start (short_tokens (group_tree g.now).code
+        (short_or_own (group_tree g.now).code all line.now))) }
     ensures prefix { BeginsWith out.old out.new }
 {
     let mut pen = Pen::new(out);
-    put_line_tokens(&mut pen, &g.code, line)?;
+    put_line_tokens(&mut pen, &g.code, line, all)?;
     Ok(())
 }
 
@@ -268,16 +273,17 @@ fn put_held_side(pen: &mut Pen<'_>, word: &[u8], side: &HeldSide) -> Result<(), 
 // ---- lines
 
 /// Prints a line, beside the group's own code.
-fn put_line_tokens(pen: &mut Pen<'_>, own: &Code, line: &Short) -> Result<(), NoMemory>
+fn put_line_tokens(pen: &mut Pen<'_>, own: &Code, line: &Short, all: bool) -> Result<(), NoMemory>
     ensures ok { OnOk result (page pen.new
-        ≡ print (short_tokens own.now.ranges line.now) (page pen.old)) }
+        ≡ print (short_tokens own.now.ranges (short_or_own own.now.ranges all line.now))
+        (page pen.old)) }
     ensures kept { Keeps (page pen.old) (page pen.new) }
 {
     match line {
         Short::Axiom(address, word, form) => put_axiom(pen, *address, *word, *form),
         Short::Inst(p, words, mems) => put_inst(pen, *p, words.as_slice(), mems.as_slice()),
         Short::Frame(p, regs, mems) => put_frame(pen, *p, regs.as_slice(), mems.as_slice()),
-        Short::ExtendCode(p, code) => put_extension(pen, own, *p, code),
+        Short::ExtendCode(p, code) => put_extension(pen, own, *p, code, all),
         Short::Compose(p, q) => put_two_numbers(pen, b"compose", *p, *q),
         Short::Strengthen(p, facts, pre) => put_changed(
             pen,
@@ -355,17 +361,50 @@ fn put_frame(pen: &mut Pen<'_>, p: u64, regs: &[(u8, u64)], mems: &[u64]) -> Res
     pen.eol()
 }
 
-fn put_extension(pen: &mut Pen<'_>, own: &Code, p: u64, code: &Code) -> Result<(), NoMemory>
+fn put_extension(
+    pen: &mut Pen<'_>,
+    own: &Code,
+    p: u64,
+    code: &Code,
+    all: bool,
+) -> Result<(), NoMemory>
     ensures ok { OnOk result (page pen.new
         ≡ print
         (line (codes "extend") (number p
-        ∷ (Atom (codes "code") ∷ code_tokens own.now.ranges code.now.ranges) ∷ []))
+        ∷ (Atom (codes "code")
+        ∷ code_tokens own.now.ranges (code_or_own own.now.ranges all code.now.ranges)) ∷ []))
         (page pen.old)) }
     ensures kept { Keeps (page pen.old) (page pen.new) }
 {
     put_cited(pen, b"extend", p)?;
-    put_stated_code(pen, own, code)?;
+    put_code_or_own(pen, own, code, all)?;
     pen.eol()
+}
+
+/// Prints such code, or that it is the group's own.
+fn put_code_or_own(pen: &mut Pen<'_>, own: &Code, code: &Code, all: bool) -> Result<(), NoMemory>
+    ensures ok { OnOk result (page pen.new
+        ≡ print
+        (Atom (codes "code")
+        ∷ code_tokens own.now.ranges (code_or_own own.now.ranges all code.now.ranges))
+        (page pen.old)) }
+    ensures kept { Keeps (page pen.old) (page pen.new) }
+{
+    if all {
+        put_own_code(pen)
+    } else {
+        put_stated_code(pen, own, code)
+    }
+}
+
+/// Prints that code is the group's own.
+fn put_own_code(pen: &mut Pen<'_>) -> Result<(), NoMemory>
+    ensures ok { OnOk result (page pen.new
+        ≡ print (Atom (codes "code") ∷ Atom (codes "all") ∷ []) (page pen.old)) }
+    ensures kept { Keeps (page pen.old) (page pen.new) }
+{
+    pen.atom(b"code")?;
+    pen.atom(b"all")
 }
 
 /// Prints a line of a word and two numbers.

@@ -15,7 +15,7 @@ use Rattle.group_text.specs.Version.{version_4}
 use Rattle.group_text.specs.declared.version.Version.TheVariants.{Four}
 use Rattle.proof_text.specs.Line.{LineTree, line_tree}
 use Rattle.frame_compose.specs.Rules.{IsExchanged}
-use Rattle.checker.specs.Accepts.{IsAcceptedBy}
+use Rattle.verdicts.specs.Accepts.{IsAcceptedBy}
 use Rattle.flow_graph.specs.Flow.{called_by}
 use Rattle.flow_graph.specs.Graph.{GraphOf, IsGraphOf}
 use Rattle.flow_graph.proofs.FlowLemmas.{is_flow}

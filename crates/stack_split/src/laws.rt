@@ -6,7 +6,7 @@ ghost use Rattle.elf_image.specs.Fault.{IsReadable};
 ghost use Rattle.frame_compose.specs.Rules.{IsExchanged};
 ghost use Rattle.group_text.specs.Version.{version_4};
 ghost use Rattle.proof_text.specs.Proofs.{AreProofsIn};
-ghost use Rattle.checker.specs.Accepts.{AcceptsBy};
+ghost use Rattle.verdicts.specs.Accepts.{AcceptsBy};
 ghost use Rattle.path_walk.specs.declared.proof.Proof.{Proof as TheProof};
 ghost use Rattle.decompiler.specs.Listing.{AreItemsBy, proofs_of};
 ghost use Rattle.stack_split.specs.Listing.{split_form};

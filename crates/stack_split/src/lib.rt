@@ -4,7 +4,7 @@
 //!
 //! `split(alloc, &image, &names)?` gives the items, or tells the first name that is outside the
 //! fragment, and why. `split_bytes` is the text of them, in version 4. `check_split`, which
-//! text_versions has, judges a text of that version; `exchange` is its further rule (`Exchange`).
+//! proof_v2 has, judges a text of that version; `exchange` is its further rule.
 //!
 //! Axioms of loads and stores have one memory, and `frame` puts a further one behind it. `exchange`
 //! gives the theorem in which the further one stands first, so that an instruction may speak of
@@ -18,7 +18,7 @@ mod text;
 
 pub use frame_compose::exchange;
 pub use functions::{WithStack, split};
-pub use kept_addresses::{law_of_addresses, law_of_regions};
 pub use laws::law_of_split_items;
+pub use proof_v2::check_split;
 pub use text::split_bytes;
-pub use text_versions::{Exchange, check_split};
+pub use verdicts::{law_of_addresses, law_of_regions};

@@ -1,10 +1,10 @@
 -- What the command `check` comes to, part by part.
 use Rattle.std.specs.Prelude.{ℕ, List, Option, Some, IfSome}
 use Rattle.mc_shelf.specs.Shelf.{Contents}
-use Rattle.checker.specs.declared.verdict.Pulled.{Pulled}
-use Rattle.checker.specs.declared.verdict.Pulled.TheVariants as pulled
-use Rattle.checker.specs.declared.verdict.Verdict.{Verdict}
-use Rattle.checker.specs.declared.verdict.Verdict.TheVariants as verdict
+use Rattle.verdicts.specs.declared.verdict.Pulled.{Pulled}
+use Rattle.verdicts.specs.declared.verdict.Pulled.TheVariants as pulled
+use Rattle.verdicts.specs.declared.verdict.Verdict.{Verdict}
+use Rattle.verdicts.specs.declared.verdict.Verdict.TheVariants as verdict
 use Rattle.mcdec_answers.specs.declared.answer.Answer.{Answer}
 use Rattle.mcdec_answers.specs.declared.answer.Answer.TheVariants as answer
 use Rattle.mcdec_answers.specs.declared.answer.CheckAnswer.TheVariants as check

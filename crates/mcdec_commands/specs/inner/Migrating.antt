@@ -1,8 +1,8 @@
 -- What the command `migrate` comes to, part by part.
 use Rattle.std.specs.Prelude.{ℕ, List, Option}
 use Rattle.mc_shelf.specs.Shelf.{Contents}
-use Rattle.checker.specs.declared.verdict.Verdict.{Verdict}
-use Rattle.checker.specs.declared.verdict.Verdict.TheVariants as verdict
+use Rattle.verdicts.specs.declared.verdict.Verdict.{Verdict}
+use Rattle.verdicts.specs.declared.verdict.Verdict.TheVariants as verdict
 use Rattle.mcdec_answers.specs.declared.answer.Answer.{Answer}
 use Rattle.mcdec_answers.specs.declared.answer.Answer.TheVariants as answer
 use Rattle.mcdec_answers.specs.declared.answer.MigrateAnswer.TheVariants as migrate

@@ -13,7 +13,7 @@ use Rattle.proof_text.specs.Proofs.{groups_of}
 use Rattle.proof_text.specs.FirstProofs.{MayOpen, ProofEnds}
 use Rattle.proof_text.specs.LineGrammar.{text_over}
 use Rattle.proof_text.specs.Answers.{NoItemOver}
-use Rattle.checker.specs.inner.Checking.{IsSameText}
+use Rattle.verdicts.specs.inner.Checking.{IsSameText}
 use Rattle.proof_v2.specs.AnyReading.{AnyState, HasGivenAny}
 use Rattle.proof_v2.specs.AnyText.{AnyProof, BeginsIn, any_lines, any_texts}
 use Rattle.mcdec_commands.specs.declared.search.Refusal.{Refusal}

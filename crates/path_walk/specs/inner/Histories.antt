@@ -4,7 +4,7 @@ use Rattle.word_terms.specs.Tree.{WordTree, Const, Var}
 use Rattle.tailrec_lang.specs.declared.group.Exit.{Exit}
 use Rattle.tailrec_lang.specs.declared.group.Exit.TheVariants.{At, Ret}
 use Rattle.triple_kernel.specs.Tree.{TripleTree}
-use Rattle.checker.specs.Instance.{History}
+use Rattle.verdicts.specs.Instance.{History}
 use Rattle.code_parts.specs.Bodies.{Flow, VariableMap, fresh}
 
 -- where a walk goes on after an exit

@@ -19,7 +19,7 @@ use Rattle.code_parts.specs.Members.{AreMembers, CallsBefore, Member, defs_of, f
 use Rattle.code_parts.specs.Groups.{group_in, member_in, members_of, context_in}
 use Rattle.code_parts.specs.declared.linked.LinkedFunction.{LinkedFunction}
 use Rattle.code_parts.specs.declared.linked.LinkedGroup.{LinkedGroup}
-use Rattle.checker.specs.Further.{further_of}
+use Rattle.verdicts.specs.Further.{further_of}
 use Rattle.path_walk.specs.inner.Walks.{CloseFirst}
 
 -- the group has the definitions of these parts in a row, from number n on, each after those that it calls

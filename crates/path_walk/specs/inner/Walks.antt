@@ -6,14 +6,14 @@ use Rattle.group_text.specs.declared.version.Version.{Version as Known}
 use Rattle.group_text.specs.Version.{version_of}
 use Rattle.proof_text.specs.Line.{LineTree, line_tree}
 use Rattle.proof_text.specs.LineLimits.{IsLineIn}
-use Rattle.checker.specs.Instance.{AreInstancesBy, FurtherRule, after_lines, no_lines}
+use Rattle.verdicts.specs.Instance.{AreInstancesBy, FurtherRule, after_lines, no_lines}
 use Rattle.code_parts.specs.Bodies.{part_def}
 use Rattle.code_parts.specs.Graph.{IsMade}
 use Rattle.code_parts.specs.Flows.{group_of}
 use Rattle.code_parts.specs.Kept.{FlowOf, flow_in}
 use Rattle.path_walk.specs.declared.item.Item.{Item}
 use Rattle.path_walk.specs.Closed.{AreClosedIn}
-use Rattle.checker.specs.Further.{further_of}
+use Rattle.verdicts.specs.Further.{further_of}
 
 -- lines that are right in a text with that further rule, after which the first n definitions are closed
 pub record CloseFirst (F : FurtherRule) (g : GroupTree) (n : ℕ) (lines : List LineTree) : Type 0 where

@@ -19,12 +19,12 @@ use Rattle.proof_text.specs.declared.line.Line.{Line}
 use Rattle.proof_text.specs.Line.{LineTree, RuleTree, States, Loop, Forget, line_tree, Further}
 use Rattle.group_text.specs.Version.{version_of}
 use Rattle.proof_text.specs.LineLimits.{IsFact, IsLineIn}
-use Rattle.checker.specs.Instance.{AreInstancesBy, History, after_line, after_lines}
+use Rattle.verdicts.specs.Instance.{AreInstancesBy, History, after_line, after_lines}
 use Rattle.code_parts.specs.declared.part.Part.{Part}
 use Rattle.code_parts.specs.declared.callee.Callee.{Callee}
 use Rattle.code_parts.specs.Bodies.{Flow, VariableMap, part_def, start}
 use Rattle.path_walk.specs.Closed.{AreClosed}
-use Rattle.checker.specs.Further.{further_of}
+use Rattle.verdicts.specs.Further.{further_of}
 use Rattle.path_walk.specs.Further.{IsVersionFor}
 use Rattle.code_parts.specs.Graph.{CallsBelow, HasCallee, HasPart, IsCode, IsPart}
 use Rattle.path_walk.specs.inner.Histories.{IsCounted, Keeps}

@@ -5,9 +5,9 @@ use Rattle.tailrec_lang.specs.Tree.{GroupTree}
 use Rattle.term_arena.specs.declared.node.Node.{Node}
 use Rattle.proof_text.specs.Line.{LineTree}
 use Rattle.proof_text.specs.LineLimits.{IsLine}
-use Rattle.checker.specs.Instance.{no_lines}
+use Rattle.verdicts.specs.Instance.{no_lines}
 use Rattle.short_text.specs.declared.short.Short.{Short}
-use Rattle.term_bench.specs.Short.{IsFineShort}
+use Rattle.checker.specs.Short.{IsFineShort}
 use Rattle.held_terms.specs.Terms.{AreTermsPutIn}
 use Rattle.proof_v2.specs.Migration.{AreRightFor}
 use Rattle.proof_v2.specs.ShortTerms.{lines_terms}

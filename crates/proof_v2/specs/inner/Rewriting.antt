@@ -3,6 +3,7 @@ use Rattle.std.specs.Prelude.{◌≡◌, ◌<◌, ◌≤◌, ℕ, List, [], ◌�
 use Rattle.std.specs.List.{AllZip}
 use Rattle.mc_text.specs.Tokens.{spell}
 use Rattle.mc_text.specs.declared.token.Before.TheVariants.{Start}
+use Rattle.sep_assert.specs.declared.assertion.Assertion.{Assertion}
 use Rattle.tailrec_lang.specs.declared.group.Group.{Group}
 use Rattle.tailrec_lang.specs.Tree.{GroupTree, group_tree}
 use Rattle.group_text.specs.Limits.{IsGroupIn}
@@ -10,18 +11,22 @@ use Rattle.group_text.specs.Spelling.{group_tokens}
 use Rattle.group_text.specs.Version.{version_1, version_2}
 use Rattle.group_text.specs.declared.version.Version.TheVariants.{One}
 use Rattle.term_arena.specs.declared.node.Node.{Node}
-use Rattle.proof_text.specs.Line.{LineTree, ProofTree, line_tree}
+use Rattle.proof_text.specs.Line.{LineTree, ProofTree, spelled_tree}
 use Rattle.proof_text.specs.LineGrammar.{IsProofOver}
 use Rattle.proof_text.specs.LineLimits.{IsLine}
 use Rattle.proof_text.specs.Proofs.{bare, line_texts_by, proof_texts_by}
 use Rattle.proof_text.specs.FirstProofs.{HasGiven, MayOpen, Progress, ProofEnds, with_line}
-use Rattle.proof_text.specs.declared.line.Line.{Line}
-use Rattle.checker.specs.Bench.{Kept, group_of, history_of}
-use Rattle.checker.specs.Instance.{after_lines, no_rule}
-use Rattle.checker.specs.Verdicts.{AreRightSoFar, IsTextOf}
+use Rattle.proof_text.specs.declared.line.SpelledLine.{SpelledLine}
+use Rattle.verdicts.specs.Instance.{History, after_lines, no_rule}
+use Rattle.verdicts.specs.Verdicts.{AreRightSoFar, IsTextOf}
 use Rattle.short_text.specs.declared.short.Short.{Short}
 use Rattle.short_text.specs.ShortProofs.{AreShortProofs, ShortProof, short_line_tokens, short_lines, text_of_short_proofs}
+use Rattle.short_text.specs.ShortSpelling.{short_tokens}
+use Rattle.checker.specs.Short.{IsFineShort, IsRightFor}
+use Rattle.held_terms.specs.Terms.{AreTermsPutIn}
 use Rattle.proof_v2.specs.MigratedText.{IsMigratedProof}
+use Rattle.proof_v2.specs.Preconditions.{ArePreconditions}
+use Rattle.proof_v2.specs.ShortTerms.{line_terms}
 use Rattle.proof_v2.specs.inner.Migrating.{AreMigrated}
 
 -- the text is that of proofs all of whose lines are right
@@ -60,9 +65,9 @@ GroupIsNext old new (Some g) = GoesOn old new × (length new.rest < length old.r
 GroupIsNext old new None = (ps : List ProofTree) → HasGiven ps old → IsTextOf old.text ps
 
 -- the next line of a group's proof, or its end
-abbrev pub LineIsNext : GroupTree → Progress → Progress → Option Line → Type 0
-LineIsNext g old new (Some l) = GoesOn old new × (length new.rest < length old.rest) × IsLine (line_tree l)
-    × ((ps : List ProofTree) (p : ProofTree) → HasGiven (ps ++ p ∷ []) old → p.group ≡ g → HasGiven (ps ++ with_line p (line_tree l) ∷ []) new)
+abbrev pub LineIsNext : GroupTree → Progress → Progress → Option SpelledLine → Type 0
+LineIsNext g old new (Some l) = GoesOn old new × (length new.rest < length old.rest) × IsLine (spelled_tree g.code l)
+    × ((ps : List ProofTree) (p : ProofTree) → HasGiven (ps ++ p ∷ []) old → p.group ≡ g → HasGiven (ps ++ with_line p (spelled_tree g.code l) ∷ []) new)
 LineIsNext g old new None = (new ≡ old) × ProofEnds old.rest
 
 -- ---- what is written
@@ -71,12 +76,22 @@ LineIsNext g old new None = (new ≡ old) × ProofEnds old.rest
 abbrev pub with_lines : GroupTree → List LineTree → ProofTree
 with_lines g ls = record { group = g; lines = ls }
 
--- the lines that were read of a group's proof are these short ones over the table
-pub record LinesAreShort (g : GroupTree) (old new : Progress) (ns : List Node) (ss : List Short) : Type 0 where
+-- the text of a short line that is right for the line was written, and the line's terms were put into the table
+pub record LineIsPut (g : GroupTree) (h : History) (l : LineTree) (ns ms : List Node) (out more : List ℕ) : Type 0 where
+  pub short : Short
+  pub right : IsRightFor g h ms short l
+  pub fine : IsFineShort ms short
+  pub terms : AreTermsPutIn ns (line_terms h l) ms
+  pub put : more ≡ out ++ spell Start (short_tokens g.code short)
+
+-- the lines that were read of a group's proof are short ones over the table, and this is the text of these
+pub record LinesAreShort (g : GroupTree) (old new : Progress) (ns : List Node) (text : List ℕ) : Type 0 where
   pub lines : List LineTree
   pub goes : GoesOn old new
   pub given : (ps : List ProofTree) → HasGiven (ps ++ bare g ∷ []) old → HasGiven (ps ++ with_lines g lines ∷ []) new
-  pub migrated : AreMigrated g ns ss lines
+  pub short : List Short
+  pub migrated : AreMigrated g ns short lines
+  pub put : text ≡ line_texts_by (short_tokens g.code) short
 
 -- the text of a group, and those of its table and lines behind it
 abbrev pub text_of_short_proof : ShortProof → List ℕ
@@ -94,13 +109,9 @@ pub record ProofIsPut (g : GroupTree) (old new : Progress) (out more : List ℕ)
   pub put : more ≡ out ++ text_of_short_proof short
 
 -- so far, with what is kept of the lines
-pub record LinesSoFar (g : GroupTree) (old new : Progress) (bench : Kept) (ns : List Node) (ss : List Short) : Type 0 where
-  pub lines : List LineTree
-  pub goes : GoesOn old new
-  pub given : (ps : List ProofTree) → HasGiven (ps ++ bare g ∷ []) old → HasGiven (ps ++ with_lines g lines ∷ []) new
-  pub migrated : AreMigrated g ns ss lines
-  pub group : group_of bench ≡ g
-  pub history : history_of bench ≡ after_lines lines
+pub record LinesSoFar (g : GroupTree) (old new : Progress) (kept : List (Option Assertion)) (ns : List Node) (text : List ℕ) : Type 0 where
+  pub are : LinesAreShort g old new ns text
+  pub keeps : ArePreconditions kept (after_lines are.lines)
 
 -- the groups that were read of a text, and what was written of them behind a title
 pub record GroupsSoFar (of : List ℕ) (r : Progress) (title out : List ℕ) : Type 0 where

@@ -3,10 +3,11 @@
 
 use super::rows::each;
 use call_link::check_linked;
-use checker::{Verdict, check_bytes};
+use checker::check_bytes;
 use rv_words::Bytes;
 use stack_split::check_split;
 use std::alloc::Global;
+use verdicts::Verdict;
 
 /// An ELF file with `add x10,x10,x11` and `jalr x0,0(x1)` at 0x10000.
 pub static ELF: [u8; 128] = [

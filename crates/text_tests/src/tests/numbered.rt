@@ -5,13 +5,13 @@ ghost use Rattle.tailrec_lang.specs.Tree.{group_tree};
 ghost use Rattle.group_text.specs.Limits.{IsGroupIn};
 ghost use Rattle.group_text.specs.Version.{version_of};
 
+use checker::Bench;
 use proof_text::{Line, Reader};
 use std::alloc::Global;
 use std::marker::Brand;
 use std::sync::ledger::{Blank, Ledger};
 use tailrec_lang::{Group, well_formed};
 use term_arena::Steps;
-use term_bench::Bench;
 
 /// The text that `decompile` writes of a loop, which adds x11 to x10 and counts x11 down to 0.
 static TEXT: &[u8] = b"\

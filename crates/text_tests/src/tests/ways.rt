@@ -3,12 +3,13 @@
 
 use super::checking::{ELF, END, FUNCTION, LOOP, V1, V3, text_of};
 use super::rows::each;
-use checker::{NoRule, Pulled, Verdict, check_pulled_by};
+use checker::check_pulled;
 use elf_image::read;
 use mc_shelf::{Lines, MemShelf};
-use proof_text::Pull;
+use proof_text::{Pull, Version};
 use proof_v2::{check_any, check_any_bytes, migrate};
 use std::alloc::Global;
+use verdicts::{Pulled, Verdict};
 
 /// The parts of a text, and the verdict.
 type Text = (&'static [&'static str], Verdict);
@@ -44,7 +45,7 @@ fn pulled_verdict(alloc: Global, shelf: &mut MemShelf) -> Option<Pulled> {
     match read(alloc, &ELF) {
         Ok(image) => {
             let mut pull = Pull::new(Lines::new("p", 1 << 30));
-            Some(check_pulled_by(alloc, &image, &mut pull, shelf, &NoRule))
+            Some(check_pulled(alloc, &image, &mut pull, Version::One, shelf))
         }
         Err(_) => None,
     }

@@ -2,8 +2,8 @@ use Rattle.std.proofs.Common.{rules, Option, take, sym, subst}
 use Rattle.mc_shelf.specs.Fault.{Rose}
 use Rattle.mc_shelf.specs.Shelf.{Contents}
 use Rattle.proof_text.specs.inner.PulledRows.{IfFile}
-use Rattle.checker.specs.Pulled.{IfVerdict}
-use Rattle.text_versions.specs.Versions.{SaysOf}
+use Rattle.verdicts.specs.Pulled.{IfVerdict}
+use Rattle.proof_v2.specs.AnyVerdicts.{SaysOf}
 use Rattle.mcdec_answers.proofs.Prints.{rose-later}
 use Rattle.mcdec_commands.specs.inner.Checking.{ImageGives}
 use Rattle.mcdec_commands.proofs.Checking.{long-gives, pulled-gives}

@@ -1,6 +1,6 @@
 use Rattle.std.proofs.Common.{subst}
 use Rattle.mc_shelf.specs.Fault.{Rose}
-use Rattle.checker.specs.declared.verdict.Verdict.TheVariants as verdict
+use Rattle.verdicts.specs.declared.verdict.Verdict.TheVariants as verdict
 use Rattle.mcdec_answers.specs.Command.{Migrate}
 use Rattle.mcdec_answers.specs.declared.answer.Answer.TheVariants as answer
 use Rattle.mcdec_answers.specs.declared.answer.MigrateAnswer.TheVariants as mi

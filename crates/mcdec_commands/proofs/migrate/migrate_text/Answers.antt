@@ -2,8 +2,8 @@ use Rattle.std.proofs.Common.{◌≡◌, List, ℕ, Option, Some, sym, subst}
 use Rattle.mc_shelf.specs.Fault.{Rose, WhereTold}
 use Rattle.mc_shelf.specs.Shelf.{Contents}
 use Rattle.proof_v2.specs.MigratedText.{IsMigratedText}
-use Rattle.checker.specs.declared.verdict.Verdict.TheVariants as verdict
-use Rattle.checker.specs.Verdicts.{Says}
+use Rattle.verdicts.specs.declared.verdict.Verdict.TheVariants as verdict
+use Rattle.verdicts.specs.Verdicts.{Says}
 use Rattle.mcdec_answers.specs.declared.answer.Answer.TheVariants as answer
 use Rattle.mcdec_answers.specs.declared.answer.MigrateAnswer.TheVariants as mi
 use Rattle.mcdec_commands.specs.EvalAnswer.{proof_limit}

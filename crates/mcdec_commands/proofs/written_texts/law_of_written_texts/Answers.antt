@@ -1,6 +1,6 @@
 use Rattle.std.proofs.Common.{ℕ, List}
 use Rattle.elf_image.specs.Fault.{IsReadable}
-use Rattle.checker.specs.Accepts.{AcceptsBy}
+use Rattle.verdicts.specs.Accepts.{AcceptsBy}
 use Rattle.path_walk.specs.declared.proof.Proof.{Proof}
 use Rattle.proof_text.specs.Proofs.{AreProofsIn}
 use Rattle.decompiler.specs.Listing.{proofs_of}

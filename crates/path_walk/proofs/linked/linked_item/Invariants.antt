@@ -1,7 +1,7 @@
 use Rattle.std.proofs.Common.{◌≡◌, map}
 use Rattle.tailrec_lang.specs.Tree.{def_tree}
 use Rattle.proof_text.specs.Line.{line_tree}
-use Rattle.checker.specs.Instance.{after_lines}
+use Rattle.verdicts.specs.Instance.{after_lines}
 use Rattle.path_walk.specs.Forgotten.{KeepsNone}
 use Rattle.path_walk.specs.inner.LinkedWalks.{AreWalkedOf}
 use Rattle.path_walk.proofs.linked.linked_item.Given as goal

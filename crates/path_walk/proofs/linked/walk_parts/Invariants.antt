@@ -2,7 +2,7 @@ use Rattle.std.proofs.Common.{◌≡◌, ◌++◌, map, take}
 use Rattle.tailrec_lang.specs.Tree.{def_tree}
 use Rattle.group_text.specs.declared.version.Version.TheVariants.{Three}
 use Rattle.proof_text.specs.Line.{line_tree}
-use Rattle.checker.specs.Instance.{after_lines}
+use Rattle.verdicts.specs.Instance.{after_lines}
 use Rattle.code_parts.specs.Bodies.{part_def}
 use Rattle.code_parts.specs.Kept.{flow_in}
 use Rattle.path_walk.specs.Forgotten.{KeepsNone}

@@ -1,7 +1,7 @@
 use Rattle.std.proofs.Common.{List, length, ap, sym, subst, ◌+◌, ◌∙◌, map, arith}
 use Rattle.proof_text.specs.Line.{LineTree, line_tree}
 use Rattle.proof_text.specs.declared.line.Line.{Line}
-use Rattle.checker.specs.Instance.{after_lines}
+use Rattle.verdicts.specs.Instance.{after_lines}
 use Rattle.path_walk.specs.Forgotten.{KeepsNone}
 use Rattle.path_walk.specs.inner.Lines.{stated}
 use Rattle.path_walk.proofs.ClosingLines.{added, next-low, next_is}

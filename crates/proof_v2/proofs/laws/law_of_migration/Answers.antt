@@ -1,4 +1,4 @@
-use Rattle.checker.specs.Instance.{no_lines}
+use Rattle.verdicts.specs.Instance.{no_lines}
 use Rattle.proof_v2.proofs.AcceptedTexts.{proof-proved}
 use Rattle.proof_v2.proofs.Migrated.{as-many}
 use Rattle.proof_v2.proofs.laws.law_of_migration.Goals as goal

@@ -1,11 +1,11 @@
 use Rattle.std.proofs.Common.{◌≡◌, ℕ, inl, inr, refl, subst}
 use Rattle.std.proofs.lemmas.Result.{IfErr-weaker, IfOk-weaker}
-use Rattle.checker.specs.declared.verdict.Verdict.{Verdict}
-use Rattle.checker.specs.declared.verdict.Verdict.TheVariants as verdict
+use Rattle.verdicts.specs.declared.verdict.Verdict.{Verdict}
+use Rattle.verdicts.specs.declared.verdict.Verdict.TheVariants as verdict
 use Rattle.group_text.specs.Version.{version_2}
-use Rattle.checker.specs.LineRules.{IsAcceptedOver}
-use Rattle.checker.specs.Verdicts.{IsAcceptance, Says}
-use Rattle.term_bench.specs.ShortRules.{short_rules}
+use Rattle.verdicts.specs.LineRules.{IsAcceptedOver}
+use Rattle.verdicts.specs.Verdicts.{IsAcceptance, Says}
+use Rattle.checker.specs.ShortRules.{short_rules}
 use Rattle.proof_v2.specs.MigratedText.{IsMigratedText}
 use Rattle.proof_v2.specs.inner.Rewriting.{BecomesText}
 use Rattle.proof_v2.proofs.AcceptedTexts.{both-accepted}

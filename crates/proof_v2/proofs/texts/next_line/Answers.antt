@@ -5,7 +5,7 @@ use Rattle.proof_v2.proofs.texts.next_line.Goals as goal
 pub returns-in-Ok : goal.returns-in-Ok
 returns-in-Ok c =
     let k = c.in-Ok in
-    line-next c.args.reader.now c.line.new.self k.ensures.text k.ensures.version c.requires.version (group_tree c.args.group.now) k.found k.ensures.given k.ensures.fits k.ensures.shorter k.ensures.end k.ensures.end_same
+    line-next c.args.reader.now c.spelled_line.new.self k.ensures.text k.ensures.version c.requires.version (group_tree c.args.group.now) k.found k.ensures.given k.ensures.fits k.ensures.shorter k.ensures.end k.ensures.end_same
 
 pub unreachable-requires : goal.unreachable-requires
 unreachable-requires c =

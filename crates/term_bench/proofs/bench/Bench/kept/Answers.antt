@@ -1,9 +1,0 @@
-use Rattle.std.proofs.Common.{subst}
-use Rattle.term_bench.specs.Bench.{BenchState, CanCite, state_history}
-use Rattle.term_bench.proofs.BenchLemmas.{cited}
-use Rattle.term_bench.proofs.bench.Bench.kept.Goals as goal
-
-pub returns : goal.returns
-returns c =
-    let s = c.self.inside in
-    subst (λ (k : BenchState). CanCite (state_history k) c.len.result) c.self.view_is (cited s.group.now s.arena s.held s.next s.closed c.len.result c.len.ensures.ordered c.len.ensures.len)

@@ -1,4 +1,0 @@
-use Rattle.term_bench.proofs.short_judge.TableBench.derive.Given as goal
-
-abbrev pub ghosts-derive_counted : goal.ghosts-derive_counted
-ghosts-derive_counted a = record { name = a.blank.name; parts = a.blank.parts }

@@ -1,4 +1,0 @@
-use Rattle.term_bench.proofs.whole_judge.BenchJudgeLinesByRule.judge_line.Given as goal
-
-abbrev pub ghosts-judge_counted : goal.ghosts-judge_counted
-ghosts-judge_counted g a = record { name = a.blank.name; parts = a.blank.parts }

@@ -1,5 +1,0 @@
-pub mod Bench
-pub mod LineTerms
-pub mod Short
-pub mod ShortRules
-pub mod inner

@@ -1,3 +1,0 @@
-pub mod Bench
-pub mod Standing
-pub mod Sharing

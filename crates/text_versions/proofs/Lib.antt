@@ -1,2 +1,0 @@
-pub mod NamedVersions
-pub mod JudgedVersions

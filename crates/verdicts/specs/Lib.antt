@@ -1,0 +1,9 @@
+pub mod Instance
+pub mod Further
+pub mod Sound
+pub mod Accepts
+pub mod Verdicts
+pub mod LineRules
+pub mod Pulled
+pub mod Addresses
+pub mod inner
