@@ -1,5 +1,5 @@
 -- Items for names in order, one after the other.
-use Rattle.std.proofs.Common.{◌≡◌, ℕ, zero, suc, ◌+◌, ◌<◌, List, [], ◌∷◌, ◌++◌, length, get_or, take, sym, refl, ap, subst, ◌∙◌, arith, Some}
+use Rattle.std.proofs.Common.{◌≡◌, ℕ, zero, suc, ◌+◌, ◌<◌, List, [], ◌∷◌, ◌++◌, length, get_or, take, sym, refl, subst, arith, Some}
 use Rattle.std.proofs.lemmas.List.{take_more}
 use Rattle.std.proofs.lemmas.Option.{slice_get-get_or}
 use Rattle.std.specs.Prelude.{slice_get}
@@ -14,7 +14,7 @@ use Rattle.call_graph.specs.declared.fault.LinkWhy.TheVariants as link
 use Rattle.rv_words.specs.Bytes.{Bytes}
 use Rattle.elf_image.specs.Image.{code_of_file}
 use Rattle.decompiler.specs.Faults.{IsFirst, Missing, Doubled, InFunction}
-use Rattle.decompiler.specs.Listing.{IsItemBy, IsRefusedBy, ItemForm}
+use Rattle.decompiler.specs.Listing.{IsItemBy, ItemForm}
 use Rattle.decompiler.specs.Refusals.{IsFaultBy, IsNoProofBy}
 use Rattle.decompiler.specs.inner.Functions.{IsNoItem, fault_alone, refusal}
 
@@ -36,30 +36,18 @@ zip_there R (w ∷ xs) (suc i) (z ∷ ys) (suc k) x h lt e = zip_there R xs i ys
 
 -- ---- names in a loop
 
--- the name of that number, taken out of a slice of the names
-abbrev pub IsListed : List (List ℕ) → ℕ → List ℕ → Type 0
-IsListed names i name = (i < length names) × (name ≡ get_or names i name)
-
-pub listed-at : (all names : List (List ℕ)) (i : ℕ) (name : List ℕ) → all ≡ names → i < length all → name ≡ get_or all i name → IsListed names i name
-listed-at all names i name same lt is = (subst (λ (ns : List (List ℕ)). i < length ns) same lt, is ∙ ap (λ (ns : List (List ℕ)). get_or ns i name) same)
-
-module _ (form : ItemForm) (file : List ℕ) (names : List (List ℕ)) (i : ℕ) (name : List ℕ) (items : List Item) (at : IsListed names i name) (before : AllZip (IsItemBy form file) (take i names) items) where
-  pub items-more : (item : Item) (new : List Item) → IsItemBy form file name item → new ≡ items ++ item ∷ [] → AllZip (IsItemBy form file) (take (i + 1) names) new
-  items-more item new is more =
-      subst (λ (xs : List Item). AllZip (IsItemBy form file) (take (i + 1) names) xs) (sym more)
-      (zip_more (IsItemBy form file) names i name items item at.0 before (subst (λ (n : List ℕ). IsItemBy form file n item) at.1 is))
+module _ (form : ItemForm) (file : List ℕ) (names : List (List ℕ)) (i : ℕ) (low : i < length names) (items : List Item) (before : AllZip (IsItemBy form file) (take i names) items) where
+  pub items-more : (item : Item) (new : List Item) → IsItemBy form file (get_or names i []) item → new ≡ items ++ item ∷ [] → AllZip (IsItemBy form file) (take (i + 1) names) new
+  items-more item new is more = subst (λ (xs : List Item). AllZip (IsItemBy form file) (take (i + 1) names) xs) (sym more) (zip_more (IsItemBy form file) names i [] items item low before is)
 
   -- the first name with a fault
-  pub first-fault : (why : LinkWhy) → IsFirst form.Causes file name why → IsRefusedBy form file names i why
-  first-fault why first = record {
-    name = name;
-    at = slice_get-get_or names i name at.0 ∙ ap Some (sym at.1);
+  pub none-listed : (why : CallGraphFault) → IsNoItem form file (get_or names i []) why → IsNoProofBy form file names (refusal i why)
+  none-listed (graph.Refused why) first = record {
+    name = get_or names i [];
+    at = slice_get-get_or names i [] low;
     first = first;
-    before = λ k other low e. zip_there (IsItemBy form file) names i items k other before low e;
+    before = λ k other few e. zip_there (IsItemBy form file) names i items k other before few e;
   }
-
-  pub none-listed : (why : CallGraphFault) → IsNoItem form file name why → IsNoProofBy form file names (refusal i why)
-  none-listed (graph.Refused why) none = first-fault why none
   none-listed graph.NoMemory none = tt
 
 -- functions each alone have faults of their own alone

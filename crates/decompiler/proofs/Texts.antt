@@ -38,7 +38,7 @@ next_line v h own xs i d old out new lt is more =
 abbrev pub item_text : Version → ProofTree → List ℕ
 item_text v p = spell Start (group_tokens p.group) ++ line_texts_in v p.group.code p.lines
 
-proof_more : (v : Version) (ps : List ProofTree) (p : ProofTree) → proof_texts_in v (ps ++ p ∷ []) ≡ proof_texts_in v ps ++ item_text v p
+pub proof_more : (v : Version) (ps : List ProofTree) (p : ProofTree) → proof_texts_in v (ps ++ p ∷ []) ≡ proof_texts_in v ps ++ item_text v p
 proof_more v [] p = append_none (item_text v p)
 proof_more v (q ∷ ps) p = ap (λ zs. item_text v q ++ zs) (proof_more v ps p) ∙ sym (append_assoc (item_text v q) (proof_texts_in v ps) (item_text v p))
 

@@ -18,7 +18,7 @@ pub use laws::{
     law_of_counted_steps, law_of_functions, law_of_items, law_of_links, law_of_parts,
     law_of_returns,
 };
-pub use making::{MakeItems, items_of};
+pub use making::{MakeItems, item_at, items_of};
 pub use name::address_of;
 pub use path_walk::{DecompileFault, Item, Proof};
-pub use text::{bytes_in, entry_of, proof_bytes};
+pub use text::{bytes_in, entry_of, proof_bytes, put_item};

@@ -1,6 +1,7 @@
 //! Items for the names of a file, in each form.
 
-ghost use Rattle.std.specs.Prelude.{◌≡◌, ℕ, List as Items, All, Ok as Fine, IfOk, IfErr};
+ghost use Rattle.std.specs.Prelude.{◌≡◌, ℕ, ◌<◌, List as Items, [], All, Ok as Fine, IfOk, IfErr, get_or, length, take};
+ghost use Rattle.std.specs.List.{AllZip};
 ghost use Rattle.elf_image.specs.Image.{code_in, image_of};
 ghost use Rattle.group_text.specs.Limits.{IsName};
 ghost use Rattle.decompiler.specs.Listing.{AreItemsBy, IsItemBy, ItemForm};
@@ -57,13 +58,34 @@ pub fn items_of<M: MakeItems>(
     let mut items = List::new(alloc);
     let mut i = 0;
     'names: while i < all.len() {
-        match item_for(alloc, image, &all[i], form) {
-            Ok(item) => items.push(item)?,
-            Err(why) => return Err(refusal(i as u64, why)),
-        }
+        items.push(item_at(alloc, image, all, i, form)?)?;
         i += 1;
     }
     Ok(Proof { items })
+}
+
+/// The item of the name of that number, or its fault, where the names before it have items.
+pub fn item_at<M: MakeItems>(
+    alloc: Global,
+    image: &Image,
+    names: &[Text],
+    number: usize,
+    form: &M,
+) -> Result<Item, LinkFault>
+    requires number { number < length names.now }
+    requires names { All IsName names.now }
+    ensures item { (file : Items ℕ)
+        → image.now ≡ image_of file
+        → IfOk result (IsItemBy M.form file (get_or names.now number [])) }
+    ensures refused { (file : Items ℕ) (before : Items Item)
+        → image.now ≡ image_of file
+        → AllZip (IsItemBy M.form file) (take number names.now) before
+        → IfErr result (IsNoProofBy M.form file names.now) }
+{
+    match item_for(alloc, image, &names[number], form) {
+        Ok(item) => Ok(item),
+        Err(why) => Err(refusal(number as u64, why)),
+    }
 }
 
 /// Why there is no proof, where this is why there is no item of the name of that number.

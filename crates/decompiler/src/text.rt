@@ -65,7 +65,7 @@ fn put_items(out: &mut Bytes, version: Version, items: &[Item]) -> Result<(), No
 }
 
 /// Appends a group's text, and those of its lines after it.
-fn put_item(out: &mut Bytes, version: Version, item: &Item) -> Result<(), NoMemory>
+pub fn put_item(out: &mut Bytes, version: Version, item: &Item) -> Result<(), NoMemory>
     requires { IsProofIn (version_of version) (proof_of item.now) }
     ensures { OnOk result (out.new
         ≡ out.old

@@ -1,13 +1,19 @@
 -- What is answered to the commands `decompile`, `link` and `split`, and what its output file holds then.
-use Rattle.std.proofs.Common.{◌≡◌, ℕ, zero, suc, ◌<◌, ◌≤◌, min, get_or, List, [], ◌∷◌, ◌++◌, length, take, Option, Some, None, refl, sym, ap, subst, ◌∙◌, inl, inr, arith}
+use Rattle.std.proofs.Common.{◌≡◌, ℕ, ◌+◌, ◌<◌, ◌≤◌, get_or, List, [], ◌∷◌, ◌++◌, length, map, take, take_all, Option, Some, None, refl, sym, ap, subst, ◌∙◌, inl, inr, append-nil, append_assoc, arith}
+use Rattle.std.proofs.lemmas.List.{take_more, map-append}
+use Rattle.std.specs.List.{AllZip}
 use Rattle.std.specs.Prelude.{IfSome}
 use Rattle.mc_shelf.specs.Shelf.{Contents}
-use Rattle.tailrec_lang.specs.Tree.{group_tree}
+use Rattle.mc_text.specs.Tokens.{spell}
+use Rattle.mc_text.specs.declared.token.Before.TheVariants.{Start}
+use Rattle.group_text.specs.Spelling.{end_tokens, title_tokens}
 use Rattle.group_text.specs.Version.{Version}
-use Rattle.proof_text.specs.Proofs.{AreProofsIn, text_of_proofs_in}
+use Rattle.proof_text.specs.Line.{ProofTree}
+use Rattle.proof_text.specs.Proofs.{proof_texts_in, text_of_proofs_in}
 use Rattle.path_walk.specs.declared.item.Item.{Item}
-use Rattle.path_walk.specs.declared.proof.Proof.{Proof}
-use Rattle.decompiler.specs.Listing.{proofs_of}
+use Rattle.decompiler.specs.Listing.{IsItemBy, ItemForm, proof_of}
+use Rattle.decompiler.proofs.InOrder.{items-more}
+use Rattle.decompiler.proofs.Texts.{item_text, proof_more, text_parts}
 use Rattle.mcdec_answers.specs.declared.command.Form.{Form}
 use Rattle.verdicts.specs.declared.verdict.Verdict.TheVariants as ve
 use Rattle.mcdec_answers.specs.declared.answer.Answer.{Answer}
@@ -23,10 +29,10 @@ use Rattle.mcdec_answers.specs.declared.answer.MigrateAnswer.TheVariants as mi
 use Rattle.mcdec_answers.specs.declared.answer.Listed.{Listed}
 use Rattle.mcdec_answers.specs.Command.{Command, Decompile, Words, output_of}
 use Rattle.mcdec_commands.specs.RunAnswer.{IsLoaded}
-use Rattle.mcdec_commands.specs.DecompileAnswer.{AreItemsIn, DecompileGives, IsTextFor, all_listed, listed_of, version_in}
+use Rattle.mcdec_commands.specs.DecompileAnswer.{DecompileGives, IsTextFor, all_listed, item_form, listed_of, version_in}
 use Rattle.mcdec_commands.specs.Answer.{Gives}
 use Rattle.mcdec_answers.specs.Printed.{status}
-use Rattle.mcdec_commands.specs.inner.Decompiling.{FileGives}
+use Rattle.mcdec_commands.specs.inner.Decompiling.{FileGives, HasItems}
 use Rattle.mcdec_commands.specs.inner.Writing.{ToldOrFault}
 use Rattle.mcdec_commands.proofs.Answers.{held-with}
 use Rattle.mcdec_commands.proofs.Leaving.{has-output}
@@ -53,41 +59,74 @@ file-gives told ws form elf out names file rose wrote w held (answer.Decompile a
 
 -- ---- the text that is written
 
--- the text of a proof with items for the names, and the answer that tells of them
-pub text-for : (form : Form) (elf : List ℕ) (names : List (List ℕ)) (file : List ℕ) → IsLoaded file → (p : Proof) → AreItemsIn form file names p → (listed : List Listed) → listed ≡ all_listed names p.items
-    → (text : List ℕ) → text ≡ text_of_proofs_in (version_in form) (proofs_of p) → (files : Contents) → files elf ≡ Some file
-    → IsTextFor form files elf names (answer.Decompile (de.Decompiled form listed)) text
-text-for form elf names file loaded p items listed told text is files holds =
-    record { file = file; holds = holds; loaded = loaded; proof = p; items = items; spelled = is; told = ap (λ (ls : List Listed). answer.Decompile (de.Decompiled form ls)) told }
+module _ (form : Form) (file : List ℕ) (names : List (List ℕ)) (loaded : IsLoaded file) (text : List ℕ) (listed : List Listed) (h : HasItems (item_form form) file names (text_of_proofs_in (version_in form)) text listed) where
+  -- it is that of items for the names, of which the answer tells
+  pub text-for : (elf : List ℕ) (files : Contents) → files elf ≡ Some file → IsTextFor form files elf names (answer.Decompile (de.Decompiled form listed)) text
+  text-for elf files holds = record {
+    file = file;
+    holds = holds;
+    loaded = loaded;
+    proof = record { items = h.items };
+    items = h.each;
+    spelled = h.is;
+    told = ap (λ (ls : List Listed). answer.Decompile (de.Decompiled form ls)) h.told;
+  }
 
--- what is answered of it
-pub proof-told : (form : Form) (file : List ℕ) (names : List (List ℕ)) → IsLoaded file → (p : Proof) → AreItemsIn form file names p → (listed : List Listed) → listed ≡ all_listed names p.items → (a : Answer)
-    → ToldOrFault (answer.Decompile (de.Decompiled form listed)) a → FileGives form file names a
-proof-told form file names loaded p items listed is a (inl e) = subst (FileGives form file names) (sym e) (refl, loaded, p, items, is)
-proof-told form file names loaded p items listed is a (inr (inl e)) = subst (FileGives form file names) (sym e) tt
-proof-told form file names loaded p items listed is a (inr (inr e)) = subst (FileGives form file names) (sym e) tt
+  -- what is answered of it
+  pub names-told : (a : Answer) → ToldOrFault (answer.Decompile (de.Decompiled form listed)) a → FileGives form file names a
+  names-told a (inl e) = subst (FileGives form file names) (sym e) (refl, loaded, record { items = h.items }, h.each, h.told)
+  names-told a (inr (inl e)) = subst (FileGives form file names) (sym e) tt
+  names-told a (inr (inr e)) = subst (FileGives form file names) (sym e) tt
 
--- ---- groups of items have definitions
+-- ---- the names one after the other
 
-pub each-has-def : (version : Version) (items : List Item) → AreProofsIn version (proofs_of (record { items = items })) → (k : ℕ) (d : Item) → k < length items → 1 ≤ length (group_tree (get_or items k d).group).defs
-each-has-def version [] h k d lt = absurd (omega arith)
-each-has-def version (i ∷ items) h zero d lt = h.0.group.some
-each-has-def version (i ∷ items) h (suc k) d lt = each-has-def version items h.1 k d (omega (arith, lt))
+listed-more : (R : List ℕ → Item → Type 0) (names : List (List ℕ)) (items : List Item) (name : List ℕ) (item : Item) → AllZip R names items
+    → all_listed (names ++ name ∷ []) (items ++ item ∷ []) ≡ all_listed names items ++ listed_of name item ∷ []
+listed-more R [] [] name item h = refl
+listed-more R [] (y ∷ items) name item h = absurd h
+listed-more R (x ∷ names) [] name item h = absurd h
+listed-more R (x ∷ names) (y ∷ items) name item h = ap (λ ls. listed_of x y ∷ ls) (listed-more R names items name item h.1)
 
--- ---- what is told of names and their items
+items-after : (v : Version) (items : List Item) (item : Item) → proof_texts_in v (map proof_of (items ++ item ∷ [])) ≡ proof_texts_in v (map proof_of items) ++ item_text v (proof_of item)
+items-after v items item = ap (proof_texts_in v) (map-append proof_of items (item ∷ [])) ∙ proof_more v (map proof_of items) (proof_of item)
 
-pub listed-more : (k : ℕ) (names : List (List ℕ)) (items : List Item) (n d : List ℕ) (i e : Item) → k < length names → k < length items → n ≡ get_or names k d → i ≡ get_or items k e
-    → all_listed (take (suc k) names) (take (suc k) items) ≡ all_listed (take k names) (take k items) ++ listed_of n i ∷ []
-listed-more k [] items n d i e ln li en ei = absurd (omega arith)
-listed-more k (x ∷ names) [] n d i e ln li en ei = absurd (omega arith)
-listed-more zero (x ∷ names) (y ∷ items) n d i e ln li en ei = λ t. listed_of (sym en t) (sym ei t) ∷ []
-listed-more (suc k) (x ∷ names) (y ∷ items) n d i e ln li en ei = ap (λ ls. listed_of x y ∷ ls) (listed-more k names items n d i e (omega arith) (omega arith) en ei)
+-- the texts behind the title
+abbrev pub begun : Version → List ProofTree → List ℕ
+begun v ps = spell Start (title_tokens v) ++ proof_texts_in v ps
 
-pub listed-whole : (k : ℕ) (names : List (List ℕ)) (items : List Item) → k ≡ min (length names) (length items) → all_listed (take k names) (take k items) ≡ all_listed names items
-listed-whole k [] items e = let z : k ≡ 0 = omega arith in (λ t. all_listed (take (z t) []) (take (z t) items))
-listed-whole k (x ∷ names) [] e = let z : k ≡ 0 = omega arith in (λ t. all_listed (take (z t) (x ∷ names)) (take (z t) []))
-listed-whole zero (x ∷ names) (y ∷ items) e = absurd (omega arith)
-listed-whole (suc k) (x ∷ names) (y ∷ items) e = ap (λ ls. listed_of x y ∷ ls) (listed-whole k names items (omega arith))
+pub at-first : (form : ItemForm) (v : Version) (file none text : List ℕ) (listed : List Listed) → none ≡ [] → listed ≡ [] → text ≡ none ++ spell Start (title_tokens v) → HasItems form file [] (begun v) text listed
+at-first form v file none text listed nothing told is = record {
+  items = [];
+  each = tt;
+  is = is ∙ ap (λ (zs : List ℕ). zs ++ spell Start (title_tokens v)) nothing ∙ sym (append-nil (spell Start (title_tokens v)));
+  told = told;
+}
+
+module _ (form : ItemForm) (v : Version) (file : List ℕ) (names : List (List ℕ)) (i : ℕ) (text new : List ℕ) (listed : List Listed) where
+  pub one-more : (told : List Listed) → i < length names → HasItems form file (take i names) (begun v) text listed → (item : Item) → IsItemBy form file (get_or names i []) item
+      → new ≡ text ++ item_text v (proof_of item) → told ≡ listed ++ listed_of item.group.name item ∷ [] → HasItems form file (take (i + 1) names) (begun v) new told
+  one-more told low h item is more tells = record {
+    items = h.items ++ item ∷ [];
+    each = items-more form file names i low h.items h.each item (h.items ++ item ∷ []) is refl;
+    is = more ∙ ap (λ (zs : List ℕ). zs ++ item_text v (proof_of item)) h.is
+        ∙ append_assoc (spell Start (title_tokens v)) (proof_texts_in v (map proof_of h.items)) (item_text v (proof_of item))
+        ∙ ap (λ (zs : List ℕ). spell Start (title_tokens v) ++ zs) (sym (items-after v h.items item));
+    told = tells ∙ (λ j. h.told j ++ listed_of (is.lists.named j) item ∷ [])
+        ∙ sym (listed-more (IsItemBy form file) (take i names) h.items (get_or names i []) item h.each)
+        ∙ (λ j. all_listed (sym (take_more names i [] low) j) (h.items ++ item ∷ []));
+  }
+
+  -- .. up to the last
+  pub all-of-them : length names ≤ i → HasItems form file (take i names) (begun v) text listed → new ≡ text ++ spell Start end_tokens → HasItems form file names (text_of_proofs_in v) new listed
+  all-of-them past h ends =
+      let all : take i names ≡ names = take_all i names past in
+      record {
+        items = h.items;
+        each = subst (λ (ns : List (List ℕ)). AllZip (IsItemBy form file) ns h.items) all h.each;
+        is = ends ∙ ap (λ (zs : List ℕ). zs ++ spell Start end_tokens) h.is ∙ append_assoc (spell Start (title_tokens v)) (proof_texts_in v (map proof_of h.items)) (spell Start end_tokens)
+            ∙ sym (text_parts v (map proof_of h.items));
+        told = h.told ∙ (λ j. all_listed (all j) h.items);
+      }
 
 -- ---- the words of another command
 

@@ -1,10 +1,10 @@
 -- What is written for names of a file is accepted for it.
-use Rattle.std.proofs.Common.{◌≡◌, ℕ, List, length, map, Option, Some, refl, sym, subst}
+use Rattle.std.proofs.Common.{◌≡◌, ℕ, List, length, Option, Some, refl, sym, subst}
 use Rattle.mc_shelf.specs.Shelf.{Contents}
 use Rattle.elf_image.specs.Fault.{IsReadable}
 use Rattle.group_text.specs.declared.version.Version.{Version as Known}
 use Rattle.group_text.specs.declared.version.Version.TheVariants.{One, Three, Four}
-use Rattle.group_text.specs.Version.{Version, version_1, version_3, version_4, version_of}
+use Rattle.group_text.specs.Version.{Version, version_1, version_3, version_4}
 use Rattle.proof_text.specs.Line.{ProofTree}
 use Rattle.proof_text.specs.Proofs.{AreProofsIn, text_of_proofs_in}
 use Rattle.frame_compose.specs.Rules.{IsExchanged, IsSteered}

@@ -1,5 +1,5 @@
 -- When each answer to `laws` comes.
-use Rattle.std.specs.Prelude.{◌≡◌, ℕ, ◌+◌, ◌<◌, ◌≤◌, List, [], length, Option, Some, None}
+use Rattle.std.specs.Prelude.{◌≡◌, ℕ, ◌+◌, ◌<◌, ◌≤◌, List, length, Option, Some, None}
 use Rattle.std.specs.List.{AllByRecursion}
 use Rattle.mc_shelf.specs.Shelf.{Contents}
 use Rattle.mc_text.specs.Fault.{IsBadAt, newlines}

@@ -5,28 +5,36 @@ ghost use Rattle.elf_image.specs.Image.{image_of};
 ghost use Rattle.mc_shelf.specs.Fault.{Rose, WhereTold};
 ghost use Rattle.mc_shelf.specs.Shelf.{TellsName};
 ghost use Rattle.group_text.specs.Limits.{IsName};
-ghost use Rattle.proof_text.specs.Proofs.{AreProofsIn, text_of_proofs_in};
-ghost use Rattle.decompiler.specs.Listing.{proofs_of};
+ghost use Rattle.group_text.specs.Version.{version_of};
+ghost use Rattle.proof_text.specs.Proofs.{text_of_proofs_in};
+ghost use Rattle.decompiler.specs.Refusals.{IsNoProofBy};
 ghost use Rattle.mcdec_commands.specs.Answer.{Gives};
-ghost use Rattle.mcdec_commands.specs.DecompileAnswer.{AreItemsIn, IsRefusedIn, IsTextFor, all_listed, listed_of, version_in};
+ghost use Rattle.mcdec_commands.specs.DecompileAnswer.{IsRefusedIn, IsTextFor, item_form, listed_of, version_in};
 ghost use Rattle.mcdec_answers.specs.Printed.{status};
 ghost use Rattle.mcdec_commands.specs.RunAnswer.{IsLoaded};
 ghost use Rattle.mcdec_answers.specs.CommandReading.{IsReadDecompile};
-ghost use Rattle.mcdec_commands.specs.inner.Decompiling.{FileGives, HasDef, IsNoProofIn};
+ghost use Rattle.mcdec_commands.specs.inner.Decompiling.{FileGives, HasDef, HasItems, IsNoProofIn};
 ghost use Rattle.mcdec_commands.specs.inner.Loading.{not_loaded};
 ghost use Rattle.mcdec_commands.specs.inner.Writing.{IsTold, WritesOut};
 ghost use Rattle.mcdec_commands.specs.inner.Shelves.{ReadsThenWrites, WritesFile};
 
 use crate::load::{LoadFault, load_image, not_read};
 use crate::output::write_answer;
-use call_link::{LinkWhy, Linked, law_of_linked_items, linked_bytes};
-use decompiler::{Alone, Item, LinkFault, Proof, entry_of, items_of, law_of_items, proof_bytes};
+use call_link::{LinkWhy, Linked};
+use decompiler::{Alone, Item, LinkFault, MakeItems, entry_of, item_at, put_item};
 use elf_image::Image;
 use mc_shelf::Shelf;
 use mcdec_answers::{Answer, Decompile, DecompileAnswer, Form, Listed};
+use proof_text::{Version, put_end, put_title};
 use rv_words::{Bytes, List, NoMemory, Text};
-use stack_split::{WithStack, law_of_split_items, split_bytes};
+use stack_split::WithStack;
 use std::alloc::Global;
+
+/// What is made before the output file is touched: its text, and what is told of each name.
+struct Written {
+    text: Bytes,
+    listed: List<Listed>,
+}
 
 /// The answer to `decompile`, `link` or `split`.
 pub fn answer_decompile<S: Shelf>(alloc: Global, d: &Decompile<'_>, shelf: &mut S) -> Answer
@@ -86,8 +94,11 @@ fn decompile_image<S: Shelf>(
     ensures shelf { WritesFile S.contents S.read_faults S.write_faults S.IsSure (status result ≡ 5)
         IsTold shelf.old shelf.new }
 {
-    match proof_of_names(alloc, image, d) {
-        Ok(proof) => write_proof(alloc, &proof, d, shelf),
+    match text_of_names(alloc, image, d) {
+        Ok(Written { text, listed }) => {
+            let told = Answer::Decompile(DecompileAnswer::Decompiled(d.form, listed));
+            write_answer(shelf, d.out, text.as_slice(), told)
+        }
         Err(LinkFault::Refused { name, why }) => {
             refuse(alloc, d.form, d.names.as_slice(), name, why)
         }
@@ -95,27 +106,71 @@ fn decompile_image<S: Shelf>(
     }
 }
 
-/// The items of the names: of each function by itself, with those that it calls, or with a memory
-/// for its stack.
-fn proof_of_names(alloc: Global, image: &Image, d: &Decompile<'_>) -> Result<Proof, LinkFault>
+/// The text of the names' items, and what is told of them: of each function by itself, with those
+/// that it calls, or with a memory for its stack.
+fn text_of_names(alloc: Global, image: &Image, d: &Decompile<'_>) -> Result<Written, LinkFault>
     requires names { All IsName d.now.names }
+    requires image { (file : Items ℕ) × (image.now ≡ image_of file) }
     ensures items { (file : Items ℕ)
         → image.now ≡ image_of file
-        → IfOk result (AreItemsIn d.now.form file d.now.names) }
+        → IfOk result (λ written. HasItems (item_form d.now.form) file d.now.names
+        (text_of_proofs_in (version_in d.now.form)) written.text written.listed) }
     ensures refused { (file : Items ℕ)
         → image.now ≡ image_of file
         → IfErr result (IsNoProofIn d.now.form file d.now.names) }
-    ensures text { (file : Items ℕ)
-        → image.now ≡ image_of file
-        → IfOk result (λ proof. AreProofsIn (version_in d.now.form) (proofs_of proof)) }
 {
-    law_of_items();
-    law_of_linked_items();
-    law_of_split_items();
+    let names = d.names.as_slice();
     match d.form {
-        Form::Alone => items_of(alloc, image, &d.names, &Alone),
-        Form::Linked => items_of(alloc, image, &d.names, &Linked),
-        Form::Split => items_of(alloc, image, &d.names, &WithStack),
+        Form::Alone => text_of_items(alloc, image, names, &Alone, Version::One),
+        Form::Linked => text_of_items(alloc, image, names, &Linked, Version::Three),
+        Form::Split => text_of_items(alloc, image, names, &WithStack, Version::Four),
+    }
+}
+
+/// The text of an item for each name, in that version, and what is told of them. Of the items one
+/// is held at a time.
+fn text_of_items<M: MakeItems>(
+    alloc: Global,
+    image: &Image,
+    names: &[Text],
+    form: &M,
+    version: Version,
+) -> Result<Written, LinkFault>
+    requires names { All IsName names.now }
+    requires image { (file : Items ℕ) × (image.now ≡ image_of file) }
+    requires version { version_of version ≡ M.form.version }
+    ensures items { (file : Items ℕ)
+        → image.now ≡ image_of file
+        → IfOk result (λ written. HasItems M.form file names.now
+        (text_of_proofs_in (version_of version)) written.text written.listed) }
+    ensures refused { (file : Items ℕ)
+        → image.now ≡ image_of file
+        → IfErr result (IsNoProofBy M.form file names.now) }
+{
+    let mut text = List::new(alloc);
+    let mut listed = List::new(alloc);
+    put_title(&mut text, version)?;
+    let mut i = 0;
+    'names: while i < names.len() {
+        let item = item_at(alloc, image, names, i, form)?;
+        put_item(&mut text, version, &item)?;
+        listed.push(told_of(item))?;
+        i += 1;
+    }
+    put_end(&mut text)?;
+    Ok(Written { text, listed })
+}
+
+/// What is told of an item.
+fn told_of(item: Item) -> Listed
+    requires { HasDef item }
+    ensures { result ≡ listed_of item.group.name item }
+{
+    Listed {
+        entry: entry_of(&item),
+        reached: item.reached,
+        defs: item.group.defs.len() as u64,
+        name: item.group.name,
     }
 }
 
@@ -133,71 +188,4 @@ fn refuse(alloc: Global, form: Form, names: &[Text], number: u64, why: LinkWhy) 
         Ok(name) => Answer::Decompile(DecompileAnswer::Refused(name, why)),
         Err(NoMemory) => Answer::NoMemory,
     }
-}
-
-/// Writes the text of a proof into the output file. All that takes memory is made before that.
-fn write_proof<S: Shelf>(alloc: Global, proof: &Proof, d: &Decompile<'_>, shelf: &mut S) -> Answer
-    requires { AreProofsIn (version_in d.now.form) (proofs_of proof.now) }
-    ensures gives { (file : Items ℕ)
-        → IsLoaded file
-        → AreItemsIn d.now.form file d.now.names proof.now
-        → FileGives d.now.form file d.now.names result }
-
-    ensures written { (file : Items ℕ)
-        → IsLoaded file
-        → AreItemsIn d.now.form file d.now.names proof.now
-        → IfSome (S.contents shelf.old) (λ files. files d.now.elf.now ≡ Some file)
-        → WhereTold (S.contents shelf.old) (S.contents shelf.new)
-        (WritesOut (λ files. IsTextFor d.now.form files d.now.elf.now d.now.names) d.now.out.now
-        result) }
-    ensures shelf { WritesFile S.contents S.read_faults S.write_faults S.IsSure (status result ≡ 5)
-        IsTold shelf.old shelf.new }
-{
-    let Ok(listed) = list_all(alloc, d.names.as_slice(), proof.items.as_slice()) else {
-        return Answer::NoMemory;
-    };
-    let Ok(text) = text_of_proof(alloc, d.form, proof) else {
-        return Answer::NoMemory;
-    };
-    let told = Answer::Decompile(DecompileAnswer::Decompiled(d.form, listed));
-    write_answer(shelf, d.out, text.as_slice(), told)
-}
-
-/// The text of a proof, in the version of its form.
-fn text_of_proof(alloc: Global, form: Form, proof: &Proof) -> Result<Bytes, NoMemory>
-    requires { AreProofsIn (version_in form) (proofs_of proof.now) }
-    ensures { IfOk result (λ text.
-        text ≡ text_of_proofs_in (version_in form) (proofs_of proof.now)) }
-{
-    match form {
-        Form::Alone => proof_bytes(alloc, proof),
-        Form::Linked => linked_bytes(alloc, proof),
-        Form::Split => split_bytes(alloc, proof),
-    }
-}
-
-/// What is told of each name with its item.
-fn list_all(alloc: Global, names: &[Text], items: &[Item]) -> Result<List<Listed>, NoMemory>
-    requires { All HasDef items.now }
-    ensures { IfOk result (λ listed. listed ≡ all_listed names.now items.now) }
-{
-    let mut listed = List::new(alloc);
-    for (name, item) in names.iter().zip(items) {
-        listed.push(list_one(alloc, name.as_slice(), item)?)?;
-    }
-    Ok(listed)
-}
-
-/// What is told of a name with its item.
-fn list_one(alloc: Global, name: &[u8], item: &Item) -> Result<Listed, NoMemory>
-    requires { HasDef item.now }
-    ensures { IfOk result (λ listed. listed ≡ listed_of name.now item.now) }
-{
-    let name = Text::from_slice(alloc, name)?;
-    Ok(Listed {
-        name,
-        entry: entry_of(item),
-        reached: item.reached,
-        defs: item.group.defs.len() as u64,
-    })
 }
