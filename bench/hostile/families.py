@@ -36,6 +36,7 @@ Made = collections.namedtuple("Made", "code text command symbols certificate", d
 FAMILIES = {}
 ENTRY, BEHIND = f"{BASE:#x}", f"{BASE + 4:#x}"
 CHECK, DECOMPILE = ["check", "ELF", "PROOF"], ["decompile", "ELF", "OUT", ENTRY]
+MIGRATE = ["migrate", "ELF", "PROOF", "OUT"]
 
 
 def family(first, counted="PROOF"):
@@ -243,6 +244,32 @@ def code_of_extensions(n):
     first = states(f"axiom {ENTRY} {FENCE:#x} next", covered=f"({ENTRY} {words([FENCE]).hex()})")
     longer = states("extend 0", covered=f"({ENTRY} {words([FENCE] * n).hex()})")
     return words([FENCE]), text(*LEAVES, first, longer, *[states("extend 1")] * n, code=words([FENCE] * (n + 1)).hex()), CHECK
+
+
+# ---- `migrate`, which writes what is accepted alone
+
+
+@family(10_000)
+def migrated_code(n):
+    """n compositions over a group's code of 4n bytes, each forgotten."""
+    first = states(f"axiom {ENTRY} {jump(0):#x} next", covered=f"({ENTRY} {TURN.hex()})", behind=ENTRY)
+    composed = [f"{states('compose 1 1', behind=ENTRY)}\nforget {i + 2}" for i in range(n)]
+    lines = [AGAIN, "again ;", first, states("extend 0", behind=ENTRY), *composed, "loop 0 1"]
+    return TURN * n, text(*lines, code=(TURN * n).hex()), MIGRATE
+
+
+@family(10_000)
+def migrated_theorems(n):
+    """n theorems of a group's code of 4n bytes, all kept."""
+    first = states(f"axiom {ENTRY} {FENCE:#x} next", covered=f"({ENTRY} {words([FENCE]).hex()})")
+    return words([FENCE] * n), text(*LEAVES, first, *[states("extend 0")] * n, "loop 0 1", code=words([FENCE] * n).hex()), MIGRATE
+
+
+@family(500)
+def migrated_frames(n):
+    """n lines that frame a theorem of n facts."""
+    facts = each(n, "(is v{0} {0:#x})")
+    return words([FENCE]), text(*LEAVES, STEP, states("weaken 0", facts), *[states("frame 1", facts)] * n, "loop 0 0"), MIGRATE
 
 
 # ---- `check` of version 2, in which a line states what it computes
