@@ -176,7 +176,8 @@ fn remove_range(pieces: &mut Vec<Piece>, from: usize, to: usize)
     pieces.drain(from..to);
 }
 
-/// The bytes of `left`, `n` zeros and the bytes of `right`.
+/// The bytes of `left`, `n` zeros and the bytes of `right`. `NoMemory` also where that is 2^64
+/// bytes or more, which no memory holds: `n` may be any word.
 fn joined(alloc: Global, left: &[u8], n: usize, right: &[u8]) -> Result<Vec<u8>, NoMemory>
     ensures { IfOk result (λ bytes. bytes.items ≡ left.now ++ replicate n 0 ++ right.now) }
 {
@@ -208,7 +209,7 @@ fn clear(bytes: &mut Vec<u8>, from: usize, n: usize)
 }
 
 /// Puts `n` zeros from a place on over all the bytes there and behind the last one. It copies none
-/// of those before.
+/// of those before. `NoMemory` also where they would end at 2^64 or behind it.
 fn extend(bytes: &mut Vec<u8>, from: usize, n: usize) -> Result<(), NoMemory>
     requires begins { from ≤ vec_len bytes.old }
     requires ends { vec_len bytes.old ≤ from + n }
