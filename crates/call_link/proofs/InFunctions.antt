@@ -12,9 +12,9 @@ use Rattle.instr_axioms.specs.Terms.{has_memory}
 use Rattle.flow_graph.specs.Flow.{Next}
 use Rattle.flow_graph.specs.Walks.{Reaches}
 use Rattle.loop_forest.specs.Forest.{number_of}
-use Rattle.call_graph.specs.Calls.{CallsTo}
-use Rattle.call_graph.specs.Functions.{AreFunctions, entries_of, size_of}
-use Rattle.call_graph.specs.declared.function.Function.{Function}
+use Rattle.code_parts.specs.Calls.{CallsTo}
+use Rattle.code_parts.specs.Functions.{AreFunctions, entries_of, size_of}
+use Rattle.code_parts.specs.declared.linked_function.Function.{Function}
 use Rattle.code_parts.specs.declared.callee.Callee.{Callee}
 use Rattle.code_parts.specs.Bodies.{part_def}
 use Rattle.code_parts.specs.Flows.{HaveCode, context_of}

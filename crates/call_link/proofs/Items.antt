@@ -13,11 +13,11 @@ use Rattle.verdicts.specs.Accepts.{IsAcceptedBy}
 use Rattle.claims.specs.Turns.{InFirstMemory, RunsBack}
 use Rattle.decompiler.proofs.Counts.{Returning, counts-of, exact-of}
 use Rattle.decompiler.proofs.Members.{members-gain}
-use Rattle.call_graph.specs.Causes.{IsCallGraphFault}
-use Rattle.call_graph.specs.Functions.{AreFunctions}
-use Rattle.call_graph.specs.declared.fault.CallGraphFault.{CallGraphFault}
-use Rattle.call_graph.specs.declared.fault.CallGraphFault.TheVariants as graph
-use Rattle.call_graph.proofs.OneAnswer.{no_cause}
+use Rattle.code_parts.specs.Causes.{IsCallGraphFault}
+use Rattle.code_parts.specs.Functions.{AreFunctions}
+use Rattle.code_parts.specs.declared.call_fault.CallGraphFault.{CallGraphFault}
+use Rattle.code_parts.specs.declared.call_fault.CallGraphFault.TheVariants as graph
+use Rattle.code_parts.proofs.OneAnswer.{no_cause}
 use Rattle.code_parts.specs.Bodies.{part_def}
 use Rattle.code_parts.specs.declared.part.Part.{Part}
 use Rattle.code_parts.specs.Graph.{IsSmall}

@@ -7,8 +7,8 @@ use Rattle.claims.specs.LinkExact.{LinkExact}
 use Rattle.claims.specs.Turns.{InFirstMemory, RunsBack}
 use Rattle.flow_graph.specs.Flow.{Next}
 use Rattle.flow_graph.specs.Walks.{Reaches}
-use Rattle.call_graph.specs.Calls.{CallsTo, IsFunction}
-use Rattle.call_graph.specs.Causes.{IsCause}
+use Rattle.code_parts.specs.Calls.{CallsTo, IsFunction}
+use Rattle.code_parts.specs.Causes.{IsCause}
 use Rattle.path_walk.specs.declared.item.Item.{Item}
 use Rattle.decompiler.specs.Listing.{HasMemory, IsItemBy, ItemForm}
 

@@ -3,14 +3,13 @@
 ghost use Rattle.std.specs.Prelude.{◌≡◌, ℕ, List as Items, All, Ok as Fine, IfOk, IfErr};
 ghost use Rattle.elf_image.specs.Image.{code_in, image_of};
 ghost use Rattle.group_text.specs.Limits.{IsName};
-ghost use Rattle.call_graph.specs.Causes.{IsCallGraphFault};
+ghost use Rattle.code_parts.specs.Causes.{IsCallGraphFault};
 ghost use Rattle.decompiler.specs.Listing.{AreItemsBy};
 ghost use Rattle.decompiler.specs.Names.{StandsFor};
 ghost use Rattle.decompiler.specs.Refusals.{IsNoProofBy};
 ghost use Rattle.call_link.specs.Listing.{IsLinkedItemFor, linked_form};
 
-use call_graph::{CallGraphFault, linked_functions};
-use code_parts::linked_group;
+use code_parts::{CallGraphFault, linked_functions, linked_group};
 use decompiler::{LinkFault, MakeItems, items_of, law_of_bytes};
 use elf_image::{Image, law_of_image};
 use path_walk::{Item, Proof, linked_item};

@@ -10,7 +10,7 @@ mod functions;
 mod laws;
 mod text;
 
-pub use call_graph::LinkWhy;
+pub use code_parts::LinkWhy;
 pub use decompiler::LinkFault;
 pub use frame_compose::steer;
 pub use functions::{Linked, link};

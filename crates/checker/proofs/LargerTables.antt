@@ -5,7 +5,7 @@ use Rattle.std.specs.List.{AllByRecursion}
 use Rattle.word_terms.specs.Tree.{WordTree}
 use Rattle.tailrec_lang.specs.Tree.{GroupTree}
 use Rattle.triple_kernel.specs.Tree.{TripleTree}
-use Rattle.term_text.specs.Limits.{IsMem, IsWord}
+use Rattle.group_text.specs.TermLimits.{IsMem, IsWord}
 use Rattle.proof_text.specs.Line.{Inst, LineTree, States, Loop, Forget, Further}
 use Rattle.proof_text.specs.LineLimits.{AreRisingFrom, IsAssertion, IsFact}
 use Rattle.term_arena.specs.declared.node.Node.{Node}

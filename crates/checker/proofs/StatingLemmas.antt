@@ -16,7 +16,7 @@ use Rattle.frame_compose.specs.Rules.{IsComposed, IsExtended, IsFramed, further,
 use Rattle.loop_rule.specs.Rule.{IsClosedBy, IsExit}
 use Rattle.group_text.specs.Limits.{index_limit}
 use Rattle.group_text.specs.Version.{Version, version_1}
-use Rattle.term_text.specs.Limits.{IsMem, IsWord}
+use Rattle.group_text.specs.TermLimits.{IsMem, IsWord}
 use Rattle.proof_text.specs.Line.{RuleTree, Axiom, Inst, Frame, Compose, ExtendCode, Strengthen, Weaken, Discharge, UseExit, LineTree, States, Loop, Forget, Further}
 use Rattle.proof_text.specs.LineLimits.{AreRisingFrom, IsLineIn, IsTriple}
 use Rattle.term_arena.specs.declared.node.Node.{Node}

@@ -6,7 +6,7 @@ use Rattle.std.proofs.lemmas.List.{append-nil, map-append}
 use Rattle.std.proofs.lemmas.List.Elements.{All-nil, All-cons}
 use Rattle.std.proofs.lemmas.List.Sums.{fold-append}
 use Rattle.word_terms.specs.Tree.{WordTree}
-use Rattle.term_text.specs.Limits.{IsMem, IsWord, depth_limit}
+use Rattle.group_text.specs.TermLimits.{IsMem, IsWord, depth_limit}
 use Rattle.term_arena.specs.declared.node.Node.{Node}
 use Rattle.term_arena.specs.declared.node.Node.TheVariants as node
 use Rattle.term_arena.specs.Arena.{AreChildren, Tree, TreeInRange, tree_depth, mem_of, tree_of, tree_over, trees_of, word_of}

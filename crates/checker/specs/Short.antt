@@ -5,7 +5,7 @@ use Rattle.mc_text.specs.Number.{IsNumber}
 use Rattle.tailrec_lang.specs.Tree.{GroupTree}
 use Rattle.triple_kernel.specs.Tree.{TripleTree}
 use Rattle.term_arena.specs.declared.node.Node.{Node}
-use Rattle.term_text.specs.Limits.{IsWord, IsMem}
+use Rattle.group_text.specs.TermLimits.{IsWord, IsMem}
 use Rattle.group_text.specs.Limits.{index_limit}
 use Rattle.held_instances.specs.Image.{IsSubAt}
 use Rattle.proof_text.specs.Line.{LineTree, RuleTree, States}

@@ -7,8 +7,8 @@ use Rattle.std.proofs.lemmas.Option.{get_or_from_slice_get}
 use Rattle.rv_words.specs.Bytes.{AreBytes, Bytes}
 use Rattle.rv_decode.specs.declared.instruction.Instr.TheVariants.{Ebreak}
 use Rattle.flow_graph.specs.Flow.{called_by}
-use Rattle.call_graph.specs.Functions.{AreFunctions, entries_of}
-use Rattle.call_graph.proofs.OneAnswer.{callee_before}
+use Rattle.code_parts.specs.Functions.{AreFunctions, entries_of}
+use Rattle.code_parts.proofs.OneAnswer.{callee_before}
 use Rattle.code_parts.specs.declared.callee.Callee.{Callee}
 use Rattle.code_parts.specs.Flows.{function_at}
 use Rattle.code_parts.specs.Members.{AreBased, CallsBefore, Member, callee_at, flow_at}

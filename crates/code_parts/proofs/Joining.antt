@@ -7,8 +7,8 @@ use Rattle.rv_words.specs.Bytes.{Bytes}
 use Rattle.rv_words.specs.declared.range.Range.{Range}
 use Rattle.rv_words.specs.Ranges.{range_bytes}
 use Rattle.sep_assert.specs.Code.{Agree, IsWithin}
-use Rattle.call_graph.specs.Functions.{IsLinkedFunction}
-use Rattle.call_graph.specs.declared.function.Function.{Function}
+use Rattle.code_parts.specs.Functions.{IsLinkedFunction}
+use Rattle.code_parts.specs.declared.linked_function.Function.{Function}
 use Rattle.code_parts.specs.Flows.{AreCodeOf, IsReached, node_code}
 use Rattle.code_parts.proofs.GraphCode.{code_in, in-code, over-cases, over-left, over-right, same-some}
 use Rattle.code_parts.proofs.ListItems.{contained, held, in-push, in-taken}

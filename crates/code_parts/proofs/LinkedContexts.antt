@@ -15,7 +15,7 @@ use Rattle.flow_graph.specs.Flow.{called_by}
 use Rattle.flow_graph.specs.Graph.{GraphOf}
 use Rattle.flow_graph.proofs.FlowLemmas.{is_flow}
 use Rattle.loop_forest.specs.Forest.{ForestOf, number_of}
-use Rattle.call_graph.specs.Functions.{AreFunctions, IsLinkedFunction, size_of}
+use Rattle.code_parts.specs.Functions.{AreFunctions, IsLinkedFunction, size_of}
 use Rattle.code_parts.specs.declared.callee.Callee.{Callee}
 use Rattle.code_parts.specs.declared.part.Part.{Part}
 use Rattle.code_parts.specs.declared.part.Part.TheVariants.{Loop, Rest}

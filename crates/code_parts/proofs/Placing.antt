@@ -4,7 +4,7 @@ use Rattle.std.proofs.lemmas.List.{map_push, take_more}
 use Rattle.std.proofs.lemmas.List.Elements.{All-nil, All-push}
 use Rattle.std.specs.List.{All}
 use Rattle.loop_forest.specs.Forest.{IsForestOf}
-use Rattle.call_graph.specs.declared.function.Function.{Function}
+use Rattle.code_parts.specs.declared.linked_function.Function.{Function}
 use Rattle.code_parts.specs.declared.callee.Callee.{Callee}
 use Rattle.code_parts.specs.declared.part.Part.TheVariants.{Rest}
 use Rattle.code_parts.specs.Flows.{alone, place_in}

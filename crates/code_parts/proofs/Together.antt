@@ -12,7 +12,7 @@ use Rattle.tailrec_lang.proofs.Definitions.{exits_there}
 use Rattle.flow_graph.specs.Walks.{Stop}
 use Rattle.flow_graph.proofs.NumberLemmas.{number_within}
 use Rattle.loop_forest.specs.Forest.{number_of}
-use Rattle.call_graph.specs.Functions.{AreFunctions, entries_of}
+use Rattle.code_parts.specs.Functions.{AreFunctions, entries_of}
 use Rattle.code_parts.specs.declared.callee.Callee.{Callee}
 use Rattle.code_parts.specs.declared.part.Part.{Part}
 use Rattle.code_parts.specs.declared.part.Part.TheVariants.{Rest}

@@ -10,8 +10,8 @@ use Rattle.tailrec_lang.specs.Tree.{GroupTree}
 use Rattle.instr_axioms.specs.Axiom.{is_own}
 use Rattle.instr_axioms.specs.Terms.{has_memory}
 use Rattle.loop_forest.specs.Forest.{number_of}
-use Rattle.call_graph.specs.Functions.{AreFunctions}
-use Rattle.call_graph.specs.declared.function.Function.{Function}
+use Rattle.code_parts.specs.Functions.{AreFunctions}
+use Rattle.code_parts.specs.declared.linked_function.Function.{Function}
 use Rattle.code_parts.specs.declared.callee.Callee.{Callee}
 use Rattle.code_parts.specs.declared.part.Part.TheVariants.{Rest}
 use Rattle.code_parts.specs.Graph.{is_jump_through}

@@ -8,4 +8,7 @@ pub mod Kept
 pub mod Low
 pub mod VariableMaps
 pub mod Groups
+pub mod Calls
+pub mod Causes
+pub mod Functions
 pub mod inner

@@ -3,3 +3,4 @@ pub mod Ranks
 pub mod Words
 pub mod Joining
 pub mod Placing
+pub mod Finding

@@ -11,7 +11,7 @@ ghost use Rattle.sep_assert.specs.Code.{Agree};
 ghost use Rattle.code_parts.specs.Groups.{AreCodeOfAll, AreSomeFunctions};
 ghost use Rattle.code_parts.specs.inner.Joining.{IsJoined};
 
-use call_graph::Function;
+use crate::linked_function::Function;
 use flow_graph::Graph;
 use instr_axioms::word_code;
 use rv_words::{List, NoMemory, Range};

@@ -16,7 +16,7 @@ ghost use Rattle.code_parts.specs.Order.{AreParts};
 ghost use Rattle.std.specs.List.{Contains};
 ghost use Rattle.rv_words.specs.Ranges.{range_bytes};
 ghost use Rattle.sep_assert.specs.Code.{IsWithin};
-ghost use Rattle.call_graph.specs.Functions.{AreFunctions};
+ghost use Rattle.code_parts.specs.Functions.{AreFunctions};
 ghost use Rattle.code_parts.specs.Kept.{IsReachedBy};
 ghost use Rattle.code_parts.specs.Members.{AreMembers, CallsBefore, Member, flow_at};
 ghost use Rattle.code_parts.specs.Groups.{IsLinkedGroup, functions_of, group_in, members_of};

@@ -6,10 +6,10 @@ ghost use Rattle.code_parts.specs.Groups.{AreSomeFunctions, IsLinkedGroup, funct
 use crate::callee::Callee;
 use crate::code::code_of_all;
 use crate::context::Context;
+use crate::linked_function::Function;
 use crate::linked_uses::{memories, registers_of_all};
 use crate::part::Part;
 use crate::places::places_of;
-use call_graph::Function;
 use rv_words::{List, NoMemory};
 use std::alloc::Global;
 use word_terms::Code;

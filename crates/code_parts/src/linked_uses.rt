@@ -4,8 +4,8 @@ ghost use Rattle.std.specs.Prelude.{◌≡◌, IfOk, if◌then◌else◌};
 ghost use Rattle.rv_decode.specs.Registers.{registers_where};
 ghost use Rattle.code_parts.specs.Groups.{is_register_of, load_or_store};
 
+use crate::linked_function::Function;
 use crate::uses::{is_used, uses_memory};
-use call_graph::Function;
 use rv_words::{List, NoMemory};
 use std::alloc::Global;
 

@@ -8,9 +8,9 @@ ghost use Rattle.code_parts.specs.Kept.{IsReachedBy};
 
 use crate::callee::Callee;
 use crate::linked::LinkedFunction;
+use crate::linked_function::Function;
 use crate::order::parts_of;
 use crate::uses::returns;
-use call_graph::Function;
 use rv_words::{List, NoMemory};
 use std::alloc::Global;
 

@@ -15,11 +15,11 @@ use Rattle.loop_forest.specs.Forest.{ForestOf, IsForestOf, IsForestFault, IsMany
 use Rattle.loop_forest.proofs.AddressLemmas.{code_in_post_order, shows_code}
 use Rattle.loop_forest.proofs.OneForest.{no_many}
 use Rattle.decompiler.specs.Names.{StandsFor}
-use Rattle.call_graph.specs.declared.fault.LinkWhy.{LinkWhy}
-use Rattle.call_graph.specs.declared.fault.LinkWhy.TheVariants as link
+use Rattle.code_parts.specs.declared.call_fault.LinkWhy.{LinkWhy}
+use Rattle.code_parts.specs.declared.call_fault.LinkWhy.TheVariants as link
 use Rattle.decompiler.specs.Faults.{IsCauseAlone, IsFirst, IsOutside, Missing, Doubled, InFunction, InCode, InCycle, InLoop}
-use Rattle.call_graph.specs.declared.fault.CallGraphFault.{CallGraphFault}
-use Rattle.call_graph.specs.declared.fault.CallGraphFault.TheVariants as graph
+use Rattle.code_parts.specs.declared.call_fault.CallGraphFault.{CallGraphFault}
+use Rattle.code_parts.specs.declared.call_fault.CallGraphFault.TheVariants as graph
 use Rattle.decompiler.specs.inner.Functions.{IsNoFunction, IsNoItem, IsRefusedAt, cause_of, outside_of}
 use Rattle.decompiler.specs.Listing.{ItemForm}
 use Rattle.flow_graph.specs.declared.outside.FlowFault.{FlowFault}

@@ -5,12 +5,12 @@ use Rattle.std.proofs.lemmas.Option.{slice_get-get_or}
 use Rattle.std.specs.Prelude.{slice_get}
 use Rattle.std.specs.List.{AllZip}
 use Rattle.path_walk.specs.declared.item.Item.{Item}
-use Rattle.call_graph.specs.declared.fault.CallGraphFault.{CallGraphFault}
-use Rattle.call_graph.specs.declared.fault.CallGraphFault.TheVariants as graph
+use Rattle.code_parts.specs.declared.call_fault.CallGraphFault.{CallGraphFault}
+use Rattle.code_parts.specs.declared.call_fault.CallGraphFault.TheVariants as graph
 use Rattle.decompiler.specs.declared.fault.LinkFault.{LinkFault}
 use Rattle.decompiler.specs.declared.fault.LinkFault.TheVariants as fault
-use Rattle.call_graph.specs.declared.fault.LinkWhy.{LinkWhy}
-use Rattle.call_graph.specs.declared.fault.LinkWhy.TheVariants as link
+use Rattle.code_parts.specs.declared.call_fault.LinkWhy.{LinkWhy}
+use Rattle.code_parts.specs.declared.call_fault.LinkWhy.TheVariants as link
 use Rattle.rv_words.specs.Bytes.{Bytes}
 use Rattle.elf_image.specs.Image.{code_of_file}
 use Rattle.decompiler.specs.Faults.{IsFirst, Missing, Doubled, InFunction}

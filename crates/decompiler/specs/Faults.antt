@@ -8,8 +8,8 @@ use Rattle.flow_graph.specs.declared.outside.Outside.TheVariants.{NoSuch, Ambigu
 use Rattle.flow_graph.specs.Flow.{Next}
 use Rattle.flow_graph.specs.Reach.{IsFault}
 use Rattle.flow_graph.specs.Graph.{GraphOf, IsGraphOf}
-use Rattle.call_graph.specs.declared.fault.LinkWhy.{LinkWhy}
-use Rattle.call_graph.specs.declared.fault.LinkWhy.TheVariants as link
+use Rattle.code_parts.specs.declared.call_fault.LinkWhy.{LinkWhy}
+use Rattle.code_parts.specs.declared.call_fault.LinkWhy.TheVariants as link
 use Rattle.loop_forest.specs.Cycles.{ShowsTwoEntries}
 use Rattle.loop_forest.specs.Forest.{IsMany}
 use Rattle.decompiler.specs.Names.{StandsFor}

@@ -28,7 +28,7 @@ use Rattle.loop_forest.specs.Loops.{IsHead, IsExit}
 use Rattle.loop_forest.specs.Regions.{IsAround}
 use Rattle.loop_forest.specs.Cuts.{IsCut}
 use Rattle.loop_forest.specs.Forest.{IsForestOf, incoming}
-use Rattle.call_graph.specs.declared.fault.LinkWhy.{LinkWhy}
+use Rattle.code_parts.specs.declared.call_fault.LinkWhy.{LinkWhy}
 use Rattle.code_parts.specs.declared.part.Part.{Part}
 use Rattle.code_parts.specs.Graph.{IsPart}
 use Rattle.code_parts.specs.Members.{AreBased, Member, callee_at, defs_of, flow_at}

@@ -1,6 +1,6 @@
 -- Why there is no proof for some names of a file.
 use Rattle.std.specs.Prelude.{ℕ, List}
-use Rattle.call_graph.specs.declared.fault.LinkWhy.TheVariants.{Outside}
+use Rattle.code_parts.specs.declared.call_fault.LinkWhy.TheVariants.{Outside}
 use Rattle.path_walk.specs.declared.proof.DecompileFault.{DecompileFault}
 use Rattle.path_walk.specs.declared.proof.DecompileFault.TheVariants.{Refused, NoMemory}
 use Rattle.decompiler.specs.declared.fault.LinkFault.{LinkFault}

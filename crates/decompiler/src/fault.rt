@@ -2,7 +2,7 @@
 
 ghost use Rattle.std.specs.Prelude.{◌≡◌};
 
-use call_graph::LinkWhy;
+use code_parts::LinkWhy;
 use rv_words::NoMemory;
 
 /// Why there is no proof.

@@ -11,7 +11,7 @@ ghost use Rattle.decompiler.specs.inner.Functions.{IsNoFunction, cause_of, fault
 use crate::bytes::law_of_bytes;
 use crate::fault::LinkFault;
 use crate::making::{MakeItems, items_of};
-use call_graph::{CallGraphFault, LinkWhy};
+use code_parts::{CallGraphFault, LinkWhy};
 use elf_image::{Image, law_of_image};
 use flow_graph::{FlowFault, Outside, build};
 use loop_forest::find_loops;

@@ -11,7 +11,7 @@ ghost use Rattle.decompiler.specs.inner.Functions.{IsNoItem, IsRefusedAt, outsid
 
 use crate::fault::LinkFault;
 use crate::name::address_of;
-use call_graph::{CallGraphFault, LinkWhy};
+use code_parts::{CallGraphFault, LinkWhy};
 use elf_image::{Image, NameFault, law_of_image};
 use flow_graph::Outside;
 use path_walk::{Item, Proof};

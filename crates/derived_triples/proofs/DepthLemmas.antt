@@ -6,7 +6,7 @@ use lib.Dec.{leb}
 use Rattle.word_terms.specs.Scope.{CondInRange, CondInScope, MemInRange, MemInScope, WordInRange, WordInScope}
 use Rattle.word_terms.specs.Tree.{WordTree, MemTree, CondTree, Const, Var, Bin, Extend, Load, MemVar, Store, Compare, Neg, Inside, depth_of_cond, depth_of_mem, depth_of_word, told_depth}
 use Rattle.word_terms.proofs.Depths.{deep_cond}
-use Rattle.term_text.specs.Limits.{FitsWord, FitsMem, FitsCond, depth_limit}
+use Rattle.group_text.specs.TermLimits.{FitsWord, FitsMem, FitsCond, depth_limit}
 use Rattle.term_arena.specs.Arena.{OfWord, OfMem, OfCond, Tree, TreeInRange, tree_depth}
 use Rattle.derived_triples.specs.inner.Depths.{FitsTree}
 

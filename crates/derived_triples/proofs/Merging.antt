@@ -17,7 +17,7 @@ use Rattle.term_arena.specs.Arena.{IsMemAt, IsWordAt, mem_of, word_of}
 use Rattle.held_terms.specs.declared.held.Held.{Held}
 use Rattle.held_terms.specs.declared.held.HeldSide.{HeldSide}
 use Rattle.held_terms.specs.Held.{fact_of, register_of, triple_of, AreMemsAt}
-use Rattle.term_text.specs.Limits.{IsWord, IsMem}
+use Rattle.group_text.specs.TermLimits.{IsWord, IsMem}
 use Rattle.derived_triples.specs.Fine.{AreFineMems, AreFineRegisters, IsFineHeld, IsFineSide}
 use Rattle.derived_triples.specs.inner.Making.{ComesFirst, MadeIf, number}
 use Rattle.derived_triples.proofs.MakingLemmas.{fine_code, fine_facts, parts_fine}

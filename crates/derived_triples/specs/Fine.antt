@@ -4,7 +4,7 @@ use Rattle.std.specs.List.{AllByRecursion}
 use Rattle.tailrec_lang.specs.Registers.{AreRegistersFrom}
 use Rattle.term_arena.specs.declared.node.Node.{Node}
 use Rattle.term_arena.specs.Arena.{mem_of}
-use Rattle.term_text.specs.Limits.{IsWord, IsMem}
+use Rattle.group_text.specs.TermLimits.{IsWord, IsMem}
 use Rattle.held_terms.specs.declared.held.HeldFact.{HeldFact}
 use Rattle.held_terms.specs.declared.held.HeldSide.{HeldSide}
 use Rattle.held_terms.specs.declared.held.Held.{Held}

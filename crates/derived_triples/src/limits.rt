@@ -3,7 +3,7 @@
 ghost use Rattle.std.specs.Prelude.{◌≡◌, ◌↔◌, ◌<◌, IsTrue, Some as Just, length, map};
 ghost use Rattle.std.specs.List.{AllByRecursion};
 ghost use Rattle.tailrec_lang.specs.Registers.{AreRegistersFrom};
-ghost use Rattle.term_text.specs.Limits.{IsCond, IsMem, IsWord, depth_limit};
+ghost use Rattle.group_text.specs.TermLimits.{IsCond, IsMem, IsWord, depth_limit};
 ghost use Rattle.term_arena.specs.Arena.{IsCondAt, IsMemAt, IsWordAt, Tree, cond_of, mem_of, tree_of, word_of};
 ghost use Rattle.group_text.specs.Limits.{IsValues, index_limit};
 ghost use Rattle.held_terms.specs.Held.{AreFactsAt, AreMemsAt, AreRegistersAt, AreValuesAt, AreWordsAt, IsFactAt, IsHeldAt, IsSideAt, fact_of, register_of, side_of, triple_of, values_over};

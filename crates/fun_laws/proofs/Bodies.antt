@@ -3,14 +3,14 @@ use Rattle.std.proofs.Common.{◌≡◌, ℕ, zero, suc, ◌+◌, ◌-◌, Bool,
 use Rattle.std.specs.Prelude.{slice_set}
 use Rattle.word_terms.specs.Tree.{WordTree, MemTree, CondTree}
 use Rattle.tailrec_lang.specs.Tree.{ValuesTree, StepTree, Bind, BindMem, Need, BodyTree, Do, Branch, Call, Again, Leave, ArmTrees, NoArm, Arm, DefTree}
-use Rattle.term_laws.specs.declared.step.Rw.{Rw}
-use Rattle.term_laws.specs.Laws.{Term, OfWord, OfMem, OfCond}
+use Rattle.fun_laws.specs.declared.step.Rw.{Rw}
+use Rattle.fun_laws.specs.Laws.{Term, OfWord, OfMem, OfCond}
 use Rattle.fun_laws.specs.Rewriting.{step_term, count, value_at, term_at, arm_term_at, with_step_term, with_word_term, with_mem_term, with_cond, with_value, with_term, with_arm_term, with_def_term, IsRewritingStep}
-use Rattle.term_laws.specs.Values.{KeepsValue}
+use Rattle.fun_laws.specs.Values.{KeepsValue}
 use Rattle.fun_laws.specs.inner.Alike.{EachPair, AlikeWords, AlikeMems, AlikeConds, AlikeValues, AlikeSteps, AlikeBodies, AlikeArms, AlikeDefs}
 use Rattle.fun_laws.proofs.Parts.{made-some}
-use Rattle.term_laws.proofs.LawLemmas.{sound_number}
-use Rattle.term_laws.proofs.Places.{alike-refl, rewrites-alike}
+use Rattle.fun_laws.proofs.LawLemmas.{sound_number}
+use Rattle.fun_laws.proofs.Places.{alike-refl, rewrites-alike}
 
 -- ---- lists
 

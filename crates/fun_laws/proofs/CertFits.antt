@@ -4,14 +4,14 @@ use Rattle.std.specs.Prelude.{slice_set}
 use Rattle.std.specs.List.{AllByRecursion}
 use Rattle.std.proofs.lemmas.Option.{slice_get_within}
 use Rattle.word_terms.specs.Tree.{WordTree, MemTree, CondTree}
-use Rattle.term_text.specs.Limits.{depth_limit, IsWord, IsMem, IsCond}
+use Rattle.group_text.specs.TermLimits.{depth_limit, IsWord, IsMem, IsCond}
 use Rattle.tailrec_lang.specs.Tree.{ValuesTree, StepTree, Bind, BindMem, Need, BodyTree, Do, Branch, Call, Again, Leave, ArmTrees, NoArm, Arm, DefTree, GroupTree, def_tree}
 use Rattle.group_text.specs.Spelling.{arm_count}
 use Rattle.group_text.specs.declared.version.Version.{Version as Known}
 use Rattle.group_text.specs.Version.{version_of}
 use Rattle.group_text.specs.Limits.{IsValues, IsStep, IsBody, AreArms, IsDef, IsGroupIn, nesting_limit, def_exit_limit, def_limit}
-use Rattle.term_laws.specs.declared.step.Rw.{Rw}
-use Rattle.term_laws.specs.Laws.{Term, OfWord, OfMem, OfCond, laws, law_at, Law}
+use Rattle.fun_laws.specs.declared.step.Rw.{Rw}
+use Rattle.fun_laws.specs.Laws.{Term, OfWord, OfMem, OfCond, laws, law_at, Law}
 use Rattle.fun_laws.specs.Rewriting.{step_term, count, value_at, term_at, arm_term_at, with_step_term, with_word_term, with_mem_term, with_cond, with_value, with_term, with_arm_term, with_def_term, IsRewritingStep, AreRewritingSteps}
 use Rattle.fun_laws.specs.Limits.{IsCert, IsCertStep}
 use Rattle.fun_laws.specs.Spelling.{cert_tree}

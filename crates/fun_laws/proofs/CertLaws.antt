@@ -16,7 +16,7 @@ use Rattle.mc_text.proofs.Shown.{Always, decimal-atom, tokens-append, tokens-eac
 use Rattle.mc_text.proofs.Turns.{many-one, many-none, many-stop}
 use Rattle.mc_text.proofs.Covers.{Covers, row-covers, covers-with, covers-list, covers-made}
 use Rattle.mc_text.proofs.Repeated.{covers-alike, covers-as, covers-bounded}
-use Rattle.term_text.specs.Spelling.{range_tokens}
+use Rattle.group_text.specs.TermSpelling.{range_tokens}
 use Rattle.tailrec_lang.specs.Tree.{DefTree, GroupTree}
 use Rattle.tailrec_lang.specs.Registers.{AreRegistersFrom}
 use Rattle.group_text.specs.Limits.{IsDef, IsGroupIn, IsName, def_limit}
@@ -24,14 +24,13 @@ use Rattle.group_text.specs.Spelling.{line, number, group_tokens, def_tokens, en
 use Rattle.group_text.specs.inner.Reading.{Head, def_at, is_def, are_some, own_defs, mark_row, regs_row, mems_row, code_row, name_of}
 use Rattle.group_text.specs.declared.version.Version.TheVariants.{One, Four}
 use Rattle.group_text.specs.Version.{Version, version_1, version_4}
-use Rattle.group_text.proofs.HeadLaws.{HasMems}
+use Rattle.group_text.proofs.HeadLaws.{HasMems, IsCode, group-name-law, le-true, mems-law, true-le}
 use Rattle.group_text.specs.inner.GroupRows.{more_head}
 use Rattle.group_text.proofs.StepLaws.{shrinks, atom-flat, name-law, number-law, eol-law, mark-law, row-law}
-use Rattle.group_text.proofs.HeadLaws.{IsCode, group-name-law, le-true, mems-law, true-le}
 use Rattle.group_text.proofs.Texts.{def-cover, def-begins, Regs, RegsFit, regs_tokens, regs-cover, Mems, MemsFit, mems_tokens, CodeRow, CodeFits, code_tokens, code-cover}
 use Rattle.group_text.proofs.Real.{def-tokens, group-tokens}
 use Rattle.group_text.proofs.OwnDefs.{Defs, guard, judge, sent, def-refuses}
-use Rattle.term_laws.specs.declared.step.Rw.{Rw}
+use Rattle.fun_laws.specs.declared.step.Rw.{Rw}
 use Rattle.fun_laws.specs.Spelling.{CertTree, cert_tokens, digits, place_text, result_tokens, cert_step_tokens, cert_title_tokens}
 use Rattle.fun_laws.specs.Limits.{IsCertIn, IsCertStep}
 use Rattle.fun_laws.specs.inner.Reading.{Mark, NameRow, Rest, StepRow, behind_head, behind_name, behind_old, behind_title, cert_at, cert_of, defs_to_end, is_step, name_row, place_of, result_at, step_at, step_numbers, step_of, title_row}

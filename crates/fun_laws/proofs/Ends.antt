@@ -15,10 +15,10 @@ use Rattle.tailrec_lang.specs.declared.group.End.TheVariants as end
 use Rattle.tailrec_lang.specs.Tree.{ValuesTree, BodyTree, Branch, Call, Again, Leave, ArmTrees, body_tree, step_tree, values_tree, with_steps}
 use Rattle.tailrec_lang.specs.inner.Tree.{arm_trees, end_tree}
 use Rattle.tailrec_lang.proofs.Views.{view_body, view_branch, view_call, view_again, view_leave}
-use Rattle.term_laws.specs.declared.log.Log.{Log}
-use Rattle.term_laws.specs.Laws.{OfCond}
-use Rattle.term_laws.specs.Simple.{IsSimple}
-use Rattle.term_laws.specs.inner.Steps.{IsNoted}
+use Rattle.fun_laws.specs.declared.log.Log.{Log}
+use Rattle.fun_laws.specs.Laws.{OfCond}
+use Rattle.fun_laws.specs.Simple.{IsSimple}
+use Rattle.fun_laws.specs.inner.Steps.{IsNoted}
 use Rattle.fun_laws.specs.Rewriting.{count, arm_term_count}
 use Rattle.fun_laws.specs.inner.Simplified.{ArePassed, AreSimpleArms, AreSimpleSteps, AreSimpleValues, IsNext, IsSimpleBody, arm_parts, body_parts, mem_parts, step_parts, value_parts, word_parts}
 use Rattle.fun_laws.proofs.PartSteps.{again_passed, body_passed, branch_passed, call_passed, leave_passed, values_passed}

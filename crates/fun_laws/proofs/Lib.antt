@@ -16,3 +16,12 @@ pub mod StepLemmas
 pub mod PartSteps
 pub mod SimpleBodies
 pub mod Ends
+pub mod WordLaws
+pub mod LawLemmas
+pub mod Fronts
+pub mod Given
+pub mod Places
+pub mod Weights
+pub mod OneTerm
+pub mod SimpleLemmas
+pub mod Noted

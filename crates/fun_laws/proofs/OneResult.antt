@@ -2,9 +2,9 @@
 use Rattle.std.proofs.Common.{◌≡◌, ℕ, zero, suc, ◌<◌, List, [], ◌∷◌, take, Some, slice_get, refl, sym, subst, ◌∙◌, arith}
 use Rattle.std.specs.Prelude.{slice_set}
 use Rattle.tailrec_lang.specs.Tree.{DefTree}
-use Rattle.term_laws.specs.declared.step.Rw.{Rw}
-use Rattle.term_laws.specs.Places.{Rewrites}
-use Rattle.term_laws.proofs.OneTerm.{function_number, one_rewritten}
+use Rattle.fun_laws.specs.declared.step.Rw.{Rw}
+use Rattle.fun_laws.specs.Places.{Rewrites}
+use Rattle.fun_laws.proofs.OneTerm.{function_number, one_rewritten}
 use Rattle.fun_laws.specs.Rewriting.{term_at, with_def_term, IsRewritingStep, AreRewritingSteps}
 use Rattle.fun_laws.specs.Certs.{IsFirstBad}
 

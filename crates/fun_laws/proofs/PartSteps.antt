@@ -4,10 +4,10 @@ use Rattle.std.specs.Prelude.{slice_set}
 use Rattle.std.proofs.lemmas.List.{append-nil, length-map}
 use Rattle.word_terms.specs.Tree.{WordTree, MemTree, CondTree}
 use Rattle.tailrec_lang.specs.Tree.{ValuesTree, StepTree, Bind, BindMem, Need, BodyTree, Do, Branch, Call, Again, Leave, ArmTrees, NoArm, Arm, with_steps, arms_of}
-use Rattle.term_laws.specs.declared.step.Rw.{Rw}
-use Rattle.term_laws.specs.declared.log.Log.{Log}
-use Rattle.term_laws.specs.Laws.{Term, OfWord, OfMem, OfCond}
-use Rattle.term_laws.specs.inner.Steps.{AreTermSteps, IsNoted, IsTermStep}
+use Rattle.fun_laws.specs.declared.step.Rw.{Rw}
+use Rattle.fun_laws.specs.declared.log.Log.{Log}
+use Rattle.fun_laws.specs.Laws.{Term, OfWord, OfMem, OfCond}
+use Rattle.fun_laws.specs.inner.Steps.{AreTermSteps, IsNoted, IsTermStep}
 use Rattle.fun_laws.specs.Rewriting.{step_term, count, arm_term_count, below_or, value_at, term_at, arm_term_at, with_step_term, with_word_term, with_mem_term, with_value, with_term, with_arm_term}
 use Rattle.fun_laws.specs.inner.Simplified.{Parts, IsPartStep, ArePartSteps, AreMade, ArePassed, IsNext, IsNotedStep, steps_with, word_parts, mem_parts, value_parts, step_parts, body_parts, arm_parts}
 use Rattle.fun_laws.specs.inner.Apart.{arm_skeletons, blank_mem, blank_values, blank_word, skeleton, terms, value_terms}

@@ -9,11 +9,11 @@ use Rattle.word_terms.specs.Tree.{word_tree, mem_tree}
 use Rattle.tailrec_lang.specs.declared.group.Step.{Step}
 use Rattle.tailrec_lang.specs.declared.group.Def.{Def}
 use Rattle.tailrec_lang.specs.Tree.{ValuesTree, StepTree, BodyTree, Do, Branch, Call, Again, Leave, ArmTrees, NoArm, Arm, DefTree, with_steps, arms_of, body_tree, def_tree, step_tree}
-use Rattle.term_laws.specs.declared.step.Rw.{Rw}
-use Rattle.term_laws.specs.declared.log.Log.{Log}
-use Rattle.term_laws.specs.Laws.{Term, OfWord, OfMem, OfCond}
-use Rattle.term_laws.specs.Places.{Rewrites}
-use Rattle.term_laws.specs.Simple.{IsSimple}
+use Rattle.fun_laws.specs.declared.step.Rw.{Rw}
+use Rattle.fun_laws.specs.declared.log.Log.{Log}
+use Rattle.fun_laws.specs.Laws.{Term, OfWord, OfMem, OfCond}
+use Rattle.fun_laws.specs.Places.{Rewrites}
+use Rattle.fun_laws.specs.Simple.{IsSimple}
 use Rattle.fun_laws.specs.Rewriting.{step_term, count, value_at, term_at, arm_term_at, with_term, with_def_term, IsRewritingStep, AreRewritingSteps, AreSimple}
 use Rattle.fun_laws.specs.inner.Simplified.{ArePassed, IsNext, IsPartStep, Parts, ArePartSteps, AreSimpleMems, AreSimpleSteps, AreSimpleValues, AreSimpleWords, IsSimpleBody, AreSimpleArms, AreSimpleDefs, IsSimplifiedDef, body_parts}
 use Rattle.fun_laws.proofs.Parts.{numbered_apart}

@@ -4,7 +4,7 @@ use Rattle.std.specs.Prelude.{slice_set}
 use Rattle.std.proofs.lemmas.List.{length-append, length-map}
 use Rattle.word_terms.specs.Tree.{WordTree, MemTree, CondTree}
 use Rattle.tailrec_lang.specs.Tree.{ValuesTree, StepTree, Bind, BindMem, Need, BodyTree, Do, Branch, Call, Again, Leave, ArmTrees, NoArm, Arm, DefTree}
-use Rattle.term_laws.specs.Laws.{Term, OfWord, OfMem, OfCond}
+use Rattle.fun_laws.specs.Laws.{Term, OfWord, OfMem, OfCond}
 use Rattle.fun_laws.specs.Rewriting.{step_term, count, arm_term_count, below_or, value_at, term_at, arm_term_at, with_step_term, with_word_term, with_mem_term, with_cond, with_value, with_term, with_arm_term}
 use Rattle.fun_laws.specs.inner.Apart.{ApartTree, arm_skeletons, arm_terms, blank_cond, blank_mem, blank_step, blank_values, blank_word, skeleton, taken_apart, terms, value_terms}
 use Rattle.fun_laws.proofs.Parts.{below, beyond, mapped_at, numbered_apart}

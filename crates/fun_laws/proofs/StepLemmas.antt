@@ -4,9 +4,9 @@ use Rattle.std.specs.Prelude.{slice_set}
 use Rattle.std.proofs.lemmas.List.{take_more}
 use Rattle.word_terms.specs.Tree.{Bin, Extend, Load, Store, Compare, Neg, Inside}
 use Rattle.tailrec_lang.specs.Tree.{DefTree, GroupTree, def_tree, group_tree}
-use Rattle.term_laws.specs.declared.step.Rw.{Rw}
-use Rattle.term_laws.specs.Laws.{Law, OfWords, OfConds, Term, OfWord, OfMem, OfCond, law_at}
-use Rattle.term_laws.specs.Places.{Rewrites, with_child}
+use Rattle.fun_laws.specs.declared.step.Rw.{Rw}
+use Rattle.fun_laws.specs.Laws.{Law, OfWords, OfConds, Term, OfWord, OfMem, OfCond, law_at}
+use Rattle.fun_laws.specs.Places.{Rewrites, with_child}
 use Rattle.fun_laws.specs.declared.apart.ApartDef.{ApartDef}
 use Rattle.fun_laws.specs.declared.apart.BodyTerm.{BodyTerm}
 use Rattle.fun_laws.specs.Rewriting.{AreRewritingSteps, IsRewritingStep, with_def_term}

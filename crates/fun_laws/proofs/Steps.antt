@@ -5,7 +5,7 @@ use Rattle.tailrec_lang.specs.Tree.{ValuesTree, StepTree, Bind, BindMem, Need, B
 use Rattle.word_terms.specs.Tree.{WordTree, MemTree}
 use Rattle.word_terms.specs.Scope.{WordInRange, MemInRange}
 use Rattle.tailrec_lang.specs.Eval.{Arguments, eval}
-use Rattle.term_laws.specs.declared.step.Rw.{Rw}
+use Rattle.fun_laws.specs.declared.step.Rw.{Rw}
 use Rattle.group_terms.specs.Range.{ArgumentsInRange, ValuesInRange, StepInRange, BodyInRange, ArmsInRange, DefInRange, ExitInRange}
 use Rattle.fun_laws.specs.Rewriting.{AreRewritingSteps, with_defs}
 use Rattle.fun_laws.specs.inner.Alike.{EachPair, AlikeWords, AlikeMems, AlikeValues, AlikeSteps, AlikeBodies, AlikeArms, AlikeDefs}

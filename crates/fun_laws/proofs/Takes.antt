@@ -15,7 +15,7 @@ use Rattle.tailrec_lang.specs.declared.group.End.TheVariants as end
 use Rattle.tailrec_lang.specs.Tree.{ValuesTree, StepTree, BodyTree, Do, Branch, Call, Again, Leave, ArmTrees, Arm, arms_of, body_tree, step_tree, values_tree, with_steps}
 use Rattle.tailrec_lang.specs.inner.Tree.{arm_trees, end_tree}
 use Rattle.tailrec_lang.proofs.Views.{view_body, view_branch, view_call, view_again, view_leave}
-use Rattle.term_laws.specs.Laws.{Term, OfWord, OfMem, OfCond}
+use Rattle.fun_laws.specs.Laws.{Term, OfWord, OfMem, OfCond}
 use Rattle.fun_laws.specs.Rewriting.{step_term}
 use Rattle.fun_laws.specs.inner.Apart.{arm_skeletons, arm_terms, blank_cond, blank_step, blank_values, skeleton, terms, value_terms}
 

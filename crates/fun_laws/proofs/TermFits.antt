@@ -10,10 +10,10 @@ use Rattle.rv_words.specs.declared.comparison.Cmp.{Cmp}
 use Rattle.rv_words.specs.declared.comparison.Cmp.TheVariants.{Eq, Ne, Lt, Ge, Ltu, Geu}
 use Rattle.rv_words.proofs.WordLemmas.{operation_small, extension_small}
 use Rattle.word_terms.specs.Tree.{WordTree, Const, Var, Bin, Extend, Load, MemTree, MemVar, Store, CondTree, Compare, Neg, Inside}
-use Rattle.term_text.specs.Limits.{FitsWord, FitsMem, FitsCond}
-use Rattle.term_laws.specs.Laws.{Letters, Law, OfWords, OfConds, laws, law_at, top, LawGives, Term, OfWord, OfMem, OfCond}
-use Rattle.term_laws.specs.Places.{children, with_child, Rewrites}
-use Rattle.term_laws.proofs.LawLemmas.{each-at}
+use Rattle.group_text.specs.TermLimits.{FitsWord, FitsMem, FitsCond}
+use Rattle.fun_laws.specs.Laws.{Letters, Law, OfWords, OfConds, laws, law_at, top, LawGives, Term, OfWord, OfMem, OfCond}
+use Rattle.fun_laws.specs.Places.{children, with_child, Rewrites}
+use Rattle.fun_laws.proofs.LawLemmas.{each-at}
 
 abbrev pub FitsTerm : ℕ → Term → Type 0
 FitsTerm d (OfWord t) = FitsWord d t

@@ -1,7 +1,7 @@
 -- Certificates of rewriting.
 use Rattle.std.specs.Prelude.{◌≡◌, ℕ, List, map, take, slice_get, Some}
 use Rattle.tailrec_lang.specs.Tree.{DefTree, GroupTree, def_tree, group_tree}
-use Rattle.term_laws.specs.declared.step.Rw.{Rw}
+use Rattle.fun_laws.specs.declared.step.Rw.{Rw}
 use Rattle.fun_laws.specs.declared.cert.Cert.{Cert}
 use Rattle.fun_laws.specs.declared.judge.CertFault.{CertFault}
 use Rattle.fun_laws.specs.declared.judge.CertFault.TheVariants as fault

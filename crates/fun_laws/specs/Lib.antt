@@ -4,4 +4,8 @@ pub mod Answers
 pub mod Rewriting
 pub mod Evaluation
 pub mod Certs
+pub mod Laws
+pub mod Places
+pub mod Values
+pub mod Simple
 pub mod inner

@@ -5,7 +5,7 @@ use Rattle.mc_text.specs.Fault.{Grammar}
 use Rattle.group_text.specs.declared.version.Version.{Version as Known}
 use Rattle.group_text.specs.Version.{Version, version_of}
 use Rattle.group_text.specs.Limits.{IsGroupIn, IsDef, index_limit, def_limit}
-use Rattle.term_laws.specs.declared.step.Rw.{Rw}
+use Rattle.fun_laws.specs.declared.step.Rw.{Rw}
 use Rattle.fun_laws.specs.Spelling.{CertTree, cert_text}
 
 pub record IsCertStep (r : Rw) : Type 0 where

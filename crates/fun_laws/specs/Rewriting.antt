@@ -2,9 +2,9 @@
 use Rattle.std.specs.Prelude.{◌≡◌, ℕ, zero, suc, ◌+◌, ◌-◌, nat_lt, if◌then◌else◌, List, [], ◌∷◌, length, slice_get, slice_set, Option, Some, None, option_map}
 use Rattle.word_terms.specs.Tree.{WordTree, MemTree, CondTree}
 use Rattle.tailrec_lang.specs.Tree.{ValuesTree, StepTree, Bind, BindMem, Need, BodyTree, Do, Branch, Call, Again, Leave, ArmTrees, NoArm, Arm, DefTree, GroupTree}
-use Rattle.term_laws.specs.declared.step.Rw.{Rw}
-use Rattle.term_laws.specs.Laws.{Law, law_at, Term, OfWord, OfMem, OfCond}
-use Rattle.term_laws.specs.Places.{Rewrites}
+use Rattle.fun_laws.specs.declared.step.Rw.{Rw}
+use Rattle.fun_laws.specs.Laws.{Law, law_at, Term, OfWord, OfMem, OfCond}
+use Rattle.fun_laws.specs.Places.{Rewrites}
 
 -- ---- the terms of a definition: its words, memories and conditions, counted from 0 in the order of its text
 

@@ -11,7 +11,7 @@ use Rattle.mc_text.specs.Tokens.{Tok, Atom, spell}
 use Rattle.mc_text.specs.declared.token.Before.TheVariants.{Start}
 use Rattle.tailrec_lang.specs.Tree.{DefTree, GroupTree, def_tree, group_tree}
 use Rattle.group_text.specs.Spelling.{line, number, group_tokens, def_tokens, end_tokens}
-use Rattle.term_laws.specs.declared.step.Rw.{Rw}
+use Rattle.fun_laws.specs.declared.step.Rw.{Rw}
 use Rattle.fun_laws.specs.declared.cert.Cert.{Cert}
 
 -- a certificate: a group, steps, and the definitions that they give

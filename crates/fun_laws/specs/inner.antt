@@ -6,3 +6,6 @@ pub mod Apart
 pub mod Taken
 pub mod Stops
 pub mod Simplified
+pub mod Shapes
+pub mod Weights
+pub mod Steps

@@ -5,7 +5,7 @@ ghost use Rattle.std.specs.Prelude.{◌≡◌, ◌++◌, ◌∷◌, [], ◌↔�
 ghost use Rattle.word_terms.specs.Tree.{cond_tree, mem_tree, word_tree};
 ghost use Rattle.tailrec_lang.specs.Tree.{body_tree, def_tree, step_tree, values_tree};
 ghost use Rattle.tailrec_lang.specs.inner.Tree.{arm_trees, end_tree};
-ghost use Rattle.term_laws.specs.Laws.{OfMem, OfWord};
+ghost use Rattle.fun_laws.specs.Laws.{OfMem, OfWord};
 ghost use Rattle.fun_laws.specs.Rewriting.{step_term};
 ghost use Rattle.fun_laws.specs.inner.Apart.{arm_skeletons, arm_terms, blank_cond, blank_mem, blank_step, blank_values, blank_word, skeleton, taken_apart, terms, value_terms};
 ghost use Rattle.fun_laws.specs.inner.Taken.{apart_tree, term_of};

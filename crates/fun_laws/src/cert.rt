@@ -1,8 +1,8 @@
 //! Certificates of rewriting.
 
+use crate::step::Rw;
 use rv_words::List;
 use tailrec_lang::{Def, Group};
-use term_laws::Rw;
 
 /// Steps of rewriting, with the group from which they start and the definitions that they give.
 #[derive(Debug, Drop)]

@@ -13,7 +13,7 @@ ghost use Rattle.fun_laws.specs.Spelling.{CertTree, cert_text, cert_tree};
 ghost use Rattle.fun_laws.specs.inner.Numbers.{HaveNumbers};
 
 use crate::cert::Cert;
-use term_laws::Rw;
+use crate::step::Rw;
 
 /// A certificate that is accepted of a group that has a text in some version has one too: no law
 /// makes a term deeper.

@@ -10,11 +10,11 @@ ghost use Rattle.fun_laws.specs.Limits.{IsCert, IsCertStep};
 ghost use Rattle.fun_laws.specs.Spelling.{cert_text, cert_tokens, cert_tree, place_text, cert_step_tokens, cert_title_tokens};
 
 use crate::cert::Cert;
+use crate::step::Rw;
 use group_text::{put_bare_line, put_defs, put_group_lines};
 use mc_text::Pen;
 use rv_words::{Bytes, List, NoMemory};
 use std::alloc::Global;
-use term_laws::Rw;
 
 /// The text of a certificate.
 pub fn cert_bytes(alloc: Global, c: &Cert) -> Result<Bytes, NoMemory>

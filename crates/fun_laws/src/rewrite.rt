@@ -2,18 +2,20 @@
 
 ghost use Rattle.std.specs.Prelude.{◌≡◌, IfErr, IfNone, IfOk, IfSome, map, slice_set};
 ghost use Rattle.tailrec_lang.specs.Tree.{def_tree};
-ghost use Rattle.term_laws.specs.Laws.{Term};
-ghost use Rattle.term_laws.specs.Places.{Rewrites};
-ghost use Rattle.term_laws.specs.inner.Shapes.{law_of};
+ghost use Rattle.fun_laws.specs.Laws.{Term};
+ghost use Rattle.fun_laws.specs.Places.{Rewrites};
+ghost use Rattle.fun_laws.specs.inner.Shapes.{law_of};
 ghost use Rattle.fun_laws.specs.inner.Apart.{AreRewritten, IsNewTerm, with_new_term};
 ghost use Rattle.fun_laws.specs.inner.Stops.{StopsAt};
 ghost use Rattle.fun_laws.specs.inner.Taken.{apart_tree, term_of};
 
 use crate::apart::{ApartDef, BodyTerm, take_defs};
+use crate::place::{rewrite_cond, rewrite_mem, rewrite_word};
+use crate::shape::{Shape, shape_of};
+use crate::step::Rw;
 use rv_words::{List, NoMemory};
 use std::alloc::Global;
 use tailrec_lang::Def;
-use term_laws::{Rw, Shape, rewrite_cond, rewrite_mem, rewrite_word, shape_of};
 
 /// Why steps don't rewrite definitions.
 #[derive(Clone, Copy)]

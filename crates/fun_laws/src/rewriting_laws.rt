@@ -3,7 +3,7 @@
 ghost use Rattle.std.specs.Prelude.{◌≡◌, List};
 ghost use Rattle.tailrec_lang.specs.Tree.{DefTree, GroupTree};
 ghost use Rattle.group_terms.specs.Range.{GroupInRange};
-ghost use Rattle.term_laws.specs.declared.step.Rw.{Rw};
+ghost use Rattle.fun_laws.specs.declared.step.Rw.{Rw};
 ghost use Rattle.fun_laws.specs.Evaluation.{EvaluateAlike};
 ghost use Rattle.fun_laws.specs.Rewriting.{AreRewritingSteps};
 

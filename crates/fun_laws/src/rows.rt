@@ -10,6 +10,7 @@ ghost use Rattle.fun_laws.specs.inner.Reading.{behind_head, behind_name, behind_
 ghost use Rattle.fun_laws.specs.inner.Views.{behind_view, defs_view, name_view, rest_view};
 
 use crate::cert::Cert;
+use crate::step::Rw;
 use crate::step_rows::{NameRow, StepRow, TitleRow};
 use group_text::{
     Head, MarkRow, ReadError, Rows, Version, next_row, read_defs, read_head, row_begins,
@@ -17,7 +18,6 @@ use group_text::{
 use rv_words::{List, Text};
 use std::alloc::Global;
 use tailrec_lang::{Def, Group};
-use term_laws::Rw;
 
 /// The steps, as many as follow.
 fn read_steps<E, R: Rows<E>>(

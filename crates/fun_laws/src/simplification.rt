@@ -8,18 +8,19 @@ ghost use Rattle.tailrec_lang.specs.Tree.{body_tree, def_tree, group_tree, step_
 ghost use Rattle.tailrec_lang.specs.inner.Tree.{arm_trees, end_tree};
 ghost use Rattle.fun_laws.specs.Certs.{IsCertOf};
 ghost use Rattle.fun_laws.specs.Evaluation.{EvaluateAlike};
-ghost use Rattle.term_laws.specs.Simple.{IsSimple};
+ghost use Rattle.fun_laws.specs.Simple.{IsSimple};
 ghost use Rattle.fun_laws.specs.Rewriting.{AreSimple, arm_term_count, count, step_term};
 ghost use Rattle.fun_laws.specs.inner.Simplified.{ArePassed, AreSimpleArms, AreSimpleMems, AreSimpleSteps, AreSimpleValues, AreSimpleWords, IsNext, IsNotedStep, IsSimpleBody, IsSimplifiedDef, arm_parts, body_parts, mem_parts, step_parts, value_parts, word_parts};
 
 use crate::cert::Cert;
+use crate::log::Log;
 use crate::made::{made_branch, made_call};
 use crate::rewriting_laws::law_of_rewriting;
+use crate::simple::{simple_cond, simple_mem, simple_word};
 use group_terms::{copy_group, has_range};
 use rv_words::{List, NoMemory};
 use std::alloc::Global;
 use tailrec_lang::{Body, Def, End, Group, Step, Values};
-use term_laws::{Log, simple_cond, simple_mem, simple_word};
 use word_terms::{Mem, Word};
 
 /// Goes on to the next term. A definition with 2^32 terms has no certificate, which is told as want

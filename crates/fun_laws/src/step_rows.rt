@@ -7,12 +7,12 @@ ghost use Rattle.group_text.specs.inner.RowReader.{read_as};
 ghost use Rattle.fun_laws.specs.inner.Reading.{are_digits, is_number, is_step, name_row, numbers, place_of, step_at, title_row};
 ghost use Rattle.fun_laws.specs.inner.Views.{name_view};
 
+use crate::step::Rw;
 use group_text::{ReadRow, RowStart, read_index, read_name};
 use mc_text::cursor::{eol, keyword, peek};
 use mc_text::{Scan, Token, TokenError};
 use rv_words::{Bytes, List, NoMemory, Text};
 use std::alloc::Global;
-use term_laws::Rw;
 
 /// Whether the bytes are digits.
 fn are_digits(bytes: &[u8]) -> bool

@@ -7,8 +7,8 @@ use Rattle.mc_text.specs.Reading.{Reader, ◌>>=◌, pair, with, made, refused, 
 use Rattle.mc_text.specs.inner.Reading.{keyed, eol, times, with_prefix, number_at}
 use Rattle.mc_text.proofs.Turns.{times-fails}
 use Rattle.word_terms.specs.Tree.{CondTree}
-use Rattle.term_text.specs.Limits.{depth_limit}
-use Rattle.term_text.specs.Reading.{cond_at}
+use Rattle.group_text.specs.TermLimits.{depth_limit}
+use Rattle.group_text.specs.TermReading.{cond_at}
 use Rattle.tailrec_lang.specs.Tree.{BodyTree, StepTree, ValuesTree, Branch, Call, Again, Leave, with_steps, arms_of}
 use Rattle.group_text.specs.inner.Reading.{is_step, step_at, body_at, end_at, arm_at, arm_bound, values_at, mark_row, where_room, branch_at, call_at, call_row, leave_at}
 use Rattle.group_text.specs.declared.read_error.ReadError.{ReadError}

@@ -12,11 +12,11 @@ use Rattle.mc_text.proofs.Covers.{Covers, Part, row-covers, covers-with, covers-
 use Rattle.mc_text.proofs.Repeated.{covers-as, covers-nothing, covers-times, part-as}
 use Rattle.word_terms.specs.Tree.{CondTree, Const, Compare}
 use Rattle.rv_words.specs.declared.comparison.Cmp.TheVariants.{Eq}
-use Rattle.term_text.specs.Limits.{depth_limit, IsCond}
-use Rattle.term_text.specs.Spelling.{cond_tokens}
-use Rattle.term_text.specs.Reading.{cond_at}
-use Rattle.term_text.proofs.TermFacts.{cond-flat}
-use Rattle.term_text.proofs.TermLaws.{cond-law}
+use Rattle.group_text.specs.TermLimits.{depth_limit, IsCond}
+use Rattle.group_text.specs.TermSpelling.{cond_tokens}
+use Rattle.group_text.specs.TermReading.{cond_at}
+use Rattle.group_text.proofs.TermFacts.{cond-flat}
+use Rattle.group_text.proofs.TermLaws.{cond-law}
 use Rattle.tailrec_lang.specs.Tree.{ValuesTree, StepTree, BodyTree, Do, Branch, Call, Again, Leave, ArmTrees, NoArm, Arm, with_steps, arms_of}
 use Rattle.group_text.specs.Limits.{IsValues, IsStep, def_exit_limit, IsBody, AreArms}
 use Rattle.group_text.specs.Spelling.{number, values_tokens, arm_count, body_tokens, arm_tokens, step_tokens}

@@ -19,11 +19,11 @@ use Rattle.mc_text.proofs.Closed.{reads-closed}
 use Rattle.mc_text.proofs.Shown.{Always, shows-atom, shows-hex}
 use Rattle.rv_words.specs.Ranges.{AreRanges, AreRangesFrom}
 use Rattle.rv_words.specs.declared.range.Range.{Range}
-use Rattle.term_text.specs.Limits.{IsRange}
-use Rattle.term_text.specs.Spelling.{range_tokens}
-use Rattle.term_text.specs.Reading.{range_at}
-use Rattle.term_text.proofs.TermFacts.{range-flat}
-use Rattle.term_text.proofs.TermLaws.{range-law, range-shrinks}
+use Rattle.group_text.specs.TermLimits.{IsRange}
+use Rattle.group_text.specs.TermSpelling.{range_tokens}
+use Rattle.group_text.specs.TermReading.{range_at}
+use Rattle.group_text.proofs.TermFacts.{range-flat}
+use Rattle.group_text.proofs.TermLaws.{range-law, range-shrinks}
 use Rattle.tailrec_lang.specs.declared.group.Exit.{Exit}
 use Rattle.tailrec_lang.specs.declared.group.Exit.TheVariants.{At, Ret}
 use Rattle.tailrec_lang.specs.Registers.{AreRegistersFrom}

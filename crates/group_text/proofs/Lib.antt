@@ -18,3 +18,9 @@ pub mod BodyJoins
 pub mod GroupJoins
 pub mod Claims
 pub mod Lending
+pub mod NameTests
+pub mod NoAtom
+pub mod TermLeaves
+pub mod TermFacts
+pub mod TermLaws
+pub mod TermLists

@@ -5,7 +5,7 @@ use Rattle.mc_text.specs.declared.token.Before.TheVariants.{Start}
 use Rattle.mc_text.proofs.Lines.{EndsIn, IsLines}
 use Rattle.mc_text.proofs.Covers.{lines-append}
 use Rattle.mc_text.proofs.Printed.{spell-after_lines}
-use Rattle.term_text.specs.Spelling.{joined, word_tokens, mem_tokens, cond_tokens, range_tokens}
+use Rattle.group_text.specs.TermSpelling.{joined, word_tokens, mem_tokens, cond_tokens, range_tokens}
 use Rattle.tailrec_lang.specs.Tree.{StepTree, Bind, BindMem, Need, BodyTree, Do, Branch, Call, Again, Leave, ArmTrees, NoArm, Arm, DefTree, GroupTree}
 use Rattle.group_text.specs.Version.{Version}
 use Rattle.group_text.specs.Spelling.{line, number, address, exit_tokens, values_tokens, step_tokens, arm_count, body_tokens, arm_tokens, def_tokens, group_tokens, title_tokens, end_tokens, text_in}

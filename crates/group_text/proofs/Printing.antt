@@ -5,7 +5,7 @@ use Rattle.std.specs.declared.alloc.Global.{Global}
 use Rattle.mc_text.specs.Tokens.{Tok}
 use Rattle.word_terms.specs.Tree.{cond_tree}
 use Rattle.word_terms.specs.declared.term.Cond.{Cond}
-use Rattle.term_text.specs.Spelling.{cond_tokens}
+use Rattle.group_text.specs.TermSpelling.{cond_tokens}
 use Rattle.tailrec_lang.specs.declared.group.Values.{Values}
 use Rattle.tailrec_lang.specs.declared.group.Body.{Body}
 use Rattle.tailrec_lang.specs.declared.group.End.{End}

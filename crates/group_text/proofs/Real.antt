@@ -9,9 +9,9 @@ use Rattle.mc_text.proofs.Lines.{AreTokens}
 use Rattle.mc_text.proofs.Shown.{decimal-atom, hex-atom, tokens-append, tokens-each}
 use Rattle.rv_words.specs.Ranges.{AreRangesFrom}
 use Rattle.rv_words.specs.declared.range.Range.{Range}
-use Rattle.term_text.specs.Limits.{IsWord, IsMem}
-use Rattle.term_text.specs.Spelling.{word_tokens, mem_tokens, cond_tokens, range_tokens}
-use Rattle.term_text.proofs.TermFacts.{word-tokens, mem-tokens, cond-tokens, range-tokens}
+use Rattle.group_text.specs.TermLimits.{IsWord, IsMem}
+use Rattle.group_text.specs.TermSpelling.{word_tokens, mem_tokens, cond_tokens, range_tokens}
+use Rattle.group_text.proofs.TermFacts.{word-tokens, mem-tokens, cond-tokens, range-tokens}
 use Rattle.tailrec_lang.specs.Tree.{ValuesTree, StepTree, Bind, BindMem, Need, BodyTree, Do, Branch, Call, Again, Leave, ArmTrees, NoArm, Arm, DefTree, GroupTree}
 use Rattle.tailrec_lang.specs.Eval.{HasFewNeeds, step_needs, needs, arm_needs}
 use Rattle.tailrec_lang.specs.declared.group.Exit.{Exit}

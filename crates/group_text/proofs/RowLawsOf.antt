@@ -4,11 +4,11 @@ use Rattle.mc_text.specs.Tokens.{Tok, Atom, Eol}
 use Rattle.mc_text.specs.Reading.{Reader, pair, one, atom_of}
 use Rattle.mc_text.specs.inner.Reading.{eol, number_at, word}
 use Rattle.mc_text.proofs.ReaderLaws.{Reads, StaysFlat, Reads-pair}
-use Rattle.term_text.specs.Limits.{depth_limit, IsWord, IsMem, IsCond}
-use Rattle.term_text.specs.Reading.{word_at, mem_at, cond_at}
-use Rattle.term_text.specs.Spelling.{word_tokens, mem_tokens, cond_tokens, range_tokens}
-use Rattle.term_text.proofs.TermFacts.{word-flat, mem-flat, cond-flat}
-use Rattle.term_text.proofs.TermLaws.{word-law, mem-law, cond-law}
+use Rattle.group_text.specs.TermLimits.{depth_limit, IsWord, IsMem, IsCond}
+use Rattle.group_text.specs.TermReading.{word_at, mem_at, cond_at}
+use Rattle.group_text.specs.TermSpelling.{word_tokens, mem_tokens, cond_tokens, range_tokens}
+use Rattle.group_text.proofs.TermFacts.{word-flat, mem-flat, cond-flat}
+use Rattle.group_text.proofs.TermLaws.{word-law, mem-law, cond-law}
 use Rattle.group_text.specs.Limits.{IsValues, def_exit_limit, IsName}
 use Rattle.group_text.specs.declared.version.Version.{Version as Known}
 use Rattle.group_text.specs.Version.{Version, version_of}

@@ -14,11 +14,11 @@ use Rattle.mc_text.proofs.Shown.{Always, shows-semi, shows-eol, shows-word, show
 use Rattle.mc_text.proofs.Covers.{Covers, Part, row-covers, covers-made, covers-part, part-refused, part-keyed, Never}
 use Rattle.word_terms.specs.Tree.{WordTree, Const, MemTree, MemVar, CondTree, Compare}
 use Rattle.rv_words.specs.declared.comparison.Cmp.TheVariants.{Eq}
-use Rattle.term_text.specs.Limits.{depth_limit, IsWord, IsMem, IsCond}
-use Rattle.term_text.specs.Spelling.{word_tokens, mem_tokens, cond_tokens}
-use Rattle.term_text.specs.Reading.{word_at, mem_at, cond_at, begins_word, begins_mem}
-use Rattle.term_text.proofs.TermFacts.{word-flat, mem-flat, cond-flat, word-begins, mem-begins}
-use Rattle.term_text.proofs.TermLaws.{word-law, mem-law, cond-law, word-shrinks, mem-shrinks}
+use Rattle.group_text.specs.TermLimits.{depth_limit, IsWord, IsMem, IsCond}
+use Rattle.group_text.specs.TermSpelling.{word_tokens, mem_tokens, cond_tokens}
+use Rattle.group_text.specs.TermReading.{word_at, mem_at, cond_at, begins_word, begins_mem}
+use Rattle.group_text.proofs.TermFacts.{word-flat, mem-flat, cond-flat, word-begins, mem-begins}
+use Rattle.group_text.proofs.TermLaws.{word-law, mem-law, cond-law, word-shrinks, mem-shrinks}
 use Rattle.tailrec_lang.specs.Tree.{ValuesTree, StepTree, Bind, BindMem, Need}
 use Rattle.group_text.specs.Limits.{IsValues, IsStep}
 use Rattle.group_text.specs.Spelling.{number, address, values_tokens, step_tokens}

@@ -10,7 +10,7 @@ use Rattle.mc_text.proofs.Star.{Shrinks}
 use Rattle.mc_text.proofs.Shown.{Always}
 use Rattle.mc_text.proofs.Covers.{Covers, row-covers, covers-with, covers-made}
 use Rattle.rv_words.specs.declared.range.Range.{Range}
-use Rattle.term_text.specs.Spelling.{range_tokens}
+use Rattle.group_text.specs.TermSpelling.{range_tokens}
 use Rattle.tailrec_lang.specs.Tree.{BodyTree, DefTree, GroupTree}
 use Rattle.tailrec_lang.specs.declared.group.Exit.{Exit}
 use Rattle.tailrec_lang.specs.Registers.{AreRegistersFrom}

@@ -4,7 +4,7 @@ use Rattle.std.specs.List.{AllByRecursion}
 use Rattle.mc_text.specs.Tokens.{IsAtom}
 use Rattle.mc_text.specs.Fault.{Grammar}
 use Rattle.rv_words.specs.Ranges.{AreRanges}
-use Rattle.term_text.specs.Limits.{IsWord, IsMem, IsCond}
+use Rattle.group_text.specs.TermLimits.{IsWord, IsMem, IsCond}
 use Rattle.tailrec_lang.specs.Tree.{ValuesTree, StepTree, Bind, BindMem, Need, BodyTree, Do, Branch, Call, Again, Leave, ArmTrees, NoArm, Arm, DefTree, GroupTree}
 use Rattle.tailrec_lang.specs.declared.group.Exit.{Exit}
 use Rattle.tailrec_lang.specs.declared.group.Exit.TheVariants.{At, Ret}

@@ -20,7 +20,7 @@ use Rattle.std.specs.Fmt.{decimal}
 use Rattle.mc_text.specs.Number.{hex}
 use Rattle.mc_text.specs.Tokens.{Tok, Semi, Atom, Eol, spell}
 use Rattle.mc_text.specs.declared.token.Before.TheVariants.{Start}
-use Rattle.term_text.specs.Spelling.{joined, word_tokens, mem_tokens, cond_tokens, range_tokens}
+use Rattle.group_text.specs.TermSpelling.{joined, word_tokens, mem_tokens, cond_tokens, range_tokens}
 use Rattle.tailrec_lang.specs.Tree.{ValuesTree, StepTree, Bind, BindMem, Need, BodyTree, Do, Branch, Call, Again, Leave, ArmTrees, NoArm, Arm, DefTree, GroupTree}
 use Rattle.group_text.specs.Version.{Version, version_1}
 use Rattle.tailrec_lang.specs.declared.group.Exit.{Exit}

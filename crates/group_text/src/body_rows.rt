@@ -6,18 +6,19 @@ ghost use Rattle.mc_text.specs.inner.Reading.{eol, number_at};
 ghost use Rattle.mc_text.specs.Scanning.{tokens_at};
 ghost use Rattle.mc_text.specs.Outcome.{Gives, last_line};
 ghost use Rattle.word_terms.specs.Tree.{cond_tree, mem_tree, word_tree};
-ghost use Rattle.term_text.specs.Limits.{depth_limit};
-ghost use Rattle.term_text.specs.Reading.{cond_at, mem_at, word_at};
+ghost use Rattle.group_text.specs.TermLimits.{depth_limit};
+ghost use Rattle.group_text.specs.TermReading.{cond_at, mem_at, word_at};
 ghost use Rattle.tailrec_lang.specs.Tree.{step_tree, values_tree};
 ghost use Rattle.group_text.specs.inner.Reading.{arm_bound, is_step, mark_row, step_at, values_at};
 ghost use Rattle.group_text.specs.inner.BodyRows.{call_of, end_row, end_row_tree, leave_by};
 
 use crate::heads::EXIT_LIMIT;
+use crate::read_terms::{read_cond, read_mem, read_word};
+use crate::term_lists::{read_mems, read_words};
 use mc_text::cursor::{eol, keyword, number, peek, semi};
 use mc_text::{Scan, Token, TokenError};
 use std::alloc::Global;
 use tailrec_lang::{Step, Values};
-use term_text::{read_cond, read_mem, read_mems, read_word, read_words};
 use word_terms::{Cond, DEPTH_LIMIT, Mem, Word};
 
 /// A line that is one word.

@@ -11,13 +11,13 @@ ghost use Rattle.group_text.specs.inner.GroupRows.{end_of, first_row, first_row_
 ghost use Rattle.group_text.specs.inner.Reading.{are_atom_bytes, are_few_exits, code_row, def_row, def_start, exit_of, has_atom, is_def, is_name, mems_row, name_of, ranges_rise, registers_rise, regs_row, title_row};
 
 use crate::body_rows::read_mark;
+use crate::term_lists::read_ranges;
 use crate::version::Version;
 use mc_text::cursor::{address, eol, keyword, number, peek};
 use mc_text::{Scan, Token, TokenError, hexnum, is_atom_byte};
 use rv_words::{List, Range, Text};
 use std::alloc::Global;
 use tailrec_lang::Exit;
-use term_text::read_ranges;
 use word_terms::Code;
 
 /// A definition has at most so many exits, and a call so many arms.

@@ -5,18 +5,18 @@ ghost use Rattle.std.specs.Prelude.{◌≡◌, ◌++◌, ◌∷◌, [], OnOk, co
 ghost use Rattle.mc_text.specs.Printing.{BeginsWith, Keeps, page, print};
 ghost use Rattle.mc_text.specs.Tokens.{Atom, spell};
 ghost use Rattle.mc_text.specs.declared.token.Before.TheVariants.{Start};
-ghost use Rattle.term_text.specs.Spelling.{cond_tokens, mem_tokens, range_tokens, word_tokens};
+ghost use Rattle.group_text.specs.TermSpelling.{cond_tokens, mem_tokens, range_tokens, word_tokens};
 ghost use Rattle.word_terms.specs.Tree.{cond_tree, mem_tree, word_tree};
 ghost use Rattle.tailrec_lang.specs.Tree.{body_tree, def_tree, group_tree, step_tree, values_tree};
 ghost use Rattle.tailrec_lang.specs.inner.Tree.{arm_trees, end_tree};
 ghost use Rattle.group_text.specs.Spelling.{arm_tokens, body_tokens, def_tokens, end_tokens, exit_tokens, group_tokens, head_tokens, line, number, step_tokens, title_tokens, values_tokens};
 ghost use Rattle.group_text.specs.Version.{version_of};
 
+use crate::put_terms::{put_cond, put_mem, put_range, put_word};
 use crate::version::Version;
 use mc_text::Pen;
 use rv_words::{Bytes, NoMemory, Range};
 use tailrec_lang::{Body, Def, End, Exit, Group, Step, Values};
-use term_text::{put_cond, put_mem, put_range, put_word};
 use word_terms::{Cond, Mem, Word};
 
 /// Prints what stands before the groups of a text of version 1.

@@ -23,8 +23,8 @@ use Rattle.mcdec_answers.specs.declared.answer.CheckAnswer.TheVariants as check
 use Rattle.flow_graph.specs.declared.outside.Outside.{Outside}
 use Rattle.flow_graph.specs.declared.outside.Outside.TheVariants as outside
 use Rattle.loop_forest.specs.Cycles.{last_of}
-use Rattle.call_graph.specs.declared.fault.LinkWhy.{LinkWhy}
-use Rattle.call_graph.specs.declared.fault.LinkWhy.TheVariants as link
+use Rattle.code_parts.specs.declared.call_fault.LinkWhy.{LinkWhy}
+use Rattle.code_parts.specs.declared.call_fault.LinkWhy.TheVariants as link
 use Rattle.mcdec_answers.specs.Command.{memory_name}
 use Rattle.mcdec_answers.specs.declared.command.Memory.{Memory}
 use Rattle.mcdec_answers.specs.declared.command.Memory.TheVariants.{First, Second}

@@ -1,7 +1,7 @@
 //! What is answered to a list of words.
 
 use crate::command::Form;
-use call_graph::LinkWhy;
+use code_parts::LinkWhy;
 use elf_image::{ElfFault, NameFault};
 use rv_machine::Stuck;
 use rv_words::{List, Range, Text};

@@ -14,7 +14,7 @@ use crate::answer::{
     SelfTestAnswer, Shown, SimplifyAnswer, SmtAnswer,
 };
 use crate::command::{Form, Memory};
-use call_graph::LinkWhy;
+use code_parts::LinkWhy;
 use elf_image::{ElfFault, NameFault};
 use flow_graph::Outside;
 use itoa::Buffer;

@@ -5,7 +5,7 @@ use Rattle.mc_shelf.specs.Shelf.{Contents}
 use Rattle.elf_image.specs.Image.{code_of_file}
 use Rattle.rv_machine.specs.State.{IsState}
 use Rattle.tailrec_lang.specs.Tree.{DefTree, GroupTree}
-use Rattle.term_laws.specs.declared.step.Rw.{Rw}
+use Rattle.fun_laws.specs.declared.step.Rw.{Rw}
 use Rattle.fun_laws.specs.Evaluation.{EvaluateAlike}
 use Rattle.fun_laws.specs.Rewriting.{AreRewritingSteps, with_defs}
 use Rattle.claims.specs.Headline.{IsRight}
@@ -13,7 +13,7 @@ use Rattle.claims.specs.Exact.{Exact, FirstReturns}
 use Rattle.claims.specs.LinkExact.{FirstReturnsIn, LinkExact}
 use Rattle.claims.specs.Turns.{InFirstMemory, RunsBack}
 use Rattle.stack_offsets.specs.SplitExact.{SplitExact, UsesSplit}
-use Rattle.carried_claims.specs.Within.{IsExactIn, IsRightIn}
+use Rattle.mcdec_commands.specs.Within.{IsExactIn, IsRightIn}
 use Rattle.mcdec_answers.specs.declared.answer.Answer.{Answer}
 use Rattle.mcdec_answers.specs.declared.answer.Answer.TheVariants as answer
 use Rattle.mcdec_answers.specs.declared.answer.LawsAnswer.{LawsAnswer}

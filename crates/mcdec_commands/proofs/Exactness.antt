@@ -26,7 +26,7 @@ use Rattle.mcdec_commands.specs.CheckAnswer.{CheckGives, AreRightFiles}
 use Rattle.path_walk.specs.declared.item.Item.{Item}
 use Rattle.mcdec_answers.specs.declared.command.Form.{Form}
 use Rattle.mcdec_answers.specs.declared.command.Form.TheVariants.{Alone}
-use Rattle.call_graph.specs.declared.fault.LinkWhy.{LinkWhy}
+use Rattle.code_parts.specs.declared.call_fault.LinkWhy.{LinkWhy}
 use Rattle.mcdec_answers.specs.declared.answer.DecompileAnswer.{DecompileAnswer}
 use Rattle.mcdec_answers.specs.declared.answer.DecompileAnswer.TheVariants as de
 use Rattle.mcdec_commands.specs.DecompileAnswer.{DecompileGives, IsRefusedIn, all_listed, item_form, without_walks}

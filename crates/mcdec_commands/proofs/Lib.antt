@@ -22,3 +22,6 @@ pub mod Exporting
 pub mod Migrating
 pub mod SelfTesting
 pub mod Examples
+pub mod Carried
+pub mod Ends
+pub mod Scripted

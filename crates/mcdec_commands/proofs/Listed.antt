@@ -11,16 +11,15 @@ use Rattle.mc_text.proofs.Lines.{AreTokens}
 use Rattle.mc_text.proofs.ReaderLaws.{IsFlat, flat-append}
 use Rattle.mc_text.proofs.FaultLine.{newlines-spell, eols-flat, tokens-front}
 use Rattle.rv_words.specs.declared.range.Range.{Range}
-use Rattle.term_text.specs.Spelling.{form, joined, word_tokens, mem_tokens, cond_tokens, range_tokens}
-use Rattle.term_text.proofs.TermFacts.{word-flat, mem-flat, cond-flat, range-flat}
+use Rattle.group_text.specs.TermSpelling.{form, joined, word_tokens, mem_tokens, cond_tokens, range_tokens}
+use Rattle.group_text.proofs.TermFacts.{word-flat, mem-flat, cond-flat, range-flat}
 use Rattle.tailrec_lang.specs.Tree.{ValuesTree, StepTree, Bind, BindMem, Need, BodyTree, Do, Branch, Call, Again, Leave, ArmTrees, NoArm, Arm, DefTree, GroupTree}
 use Rattle.tailrec_lang.specs.declared.group.Exit.{Exit}
 use Rattle.tailrec_lang.specs.declared.group.Exit.TheVariants.{At, Ret}
 use Rattle.proof_text.specs.Line.{RuleTree, Axiom, Inst, Frame, Compose, ExtendCode, Strengthen, Weaken, Discharge, UseExit, LineTree, States, Loop, Forget, Further}
 use Rattle.proof_text.specs.LineLimits.{IsLineIn}
-use Rattle.proof_text.specs.LineSpelling.{rule_tokens, line_tokens_in}
+use Rattle.proof_text.specs.LineSpelling.{rule_tokens, line_tokens_in, code_tokens, form_tokens, same_ranges}
 use Rattle.group_text.specs.Limits.{AreGroupsIn}
-use Rattle.proof_text.specs.LineSpelling.{code_tokens, form_tokens, same_ranges}
 use Rattle.proof_text.specs.LineGrammar.{AreProofsOver, proof_tokens_over}
 use Rattle.proof_text.specs.Proofs.{groups_of}
 use Rattle.proof_text.specs.FirstProofs.{Adds}

@@ -31,10 +31,10 @@ use Rattle.code_parts.proofs.Lists.{here, later}
 use Rattle.decompiler.specs.Names.{StandsFor}
 use Rattle.decompiler.specs.Faults.{IsCauseAlone, IsFirst, IsOutside, Missing, Doubled, InFunction, InCode, InCycle, InLoop}
 use Rattle.decompiler.specs.Listing.{HasDefs, HaveDefs, IsDefOf, IsItemBy}
-use Rattle.call_graph.specs.Causes.{HasOneForm}
-use Rattle.call_graph.specs.declared.fault.LinkWhy.{LinkWhy}
-use Rattle.call_graph.specs.declared.fault.LinkWhy.TheVariants as link
-use Rattle.call_graph.proofs.OneCause.{one_cause}
+use Rattle.code_parts.specs.Causes.{HasOneForm}
+use Rattle.code_parts.specs.declared.call_fault.LinkWhy.{LinkWhy}
+use Rattle.code_parts.specs.declared.call_fault.LinkWhy.TheVariants as link
+use Rattle.code_parts.proofs.OneCause.{one_cause}
 use Rattle.mcdec_answers.specs.declared.answer.DecompileAnswer.TheVariants as de
 use Rattle.mcdec_answers.specs.declared.command.Form.{Form}
 use Rattle.mcdec_answers.specs.declared.command.Form.TheVariants.{Alone, Linked, Split}

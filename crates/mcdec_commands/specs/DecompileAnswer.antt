@@ -8,8 +8,8 @@ use Rattle.group_text.specs.Version.{Version}
 use Rattle.proof_text.specs.Proofs.{text_of_proofs_in}
 use Rattle.mcdec_answers.specs.declared.command.Form.{Form}
 use Rattle.mcdec_answers.specs.declared.command.Form.TheVariants.{Alone, Linked, Split}
-use Rattle.call_graph.specs.declared.fault.LinkWhy.{LinkWhy}
-use Rattle.call_graph.specs.declared.fault.LinkWhy.TheVariants as link
+use Rattle.code_parts.specs.declared.call_fault.LinkWhy.{LinkWhy}
+use Rattle.code_parts.specs.declared.call_fault.LinkWhy.TheVariants as link
 use Rattle.claims.specs.Headline.{entry_at}
 use Rattle.path_walk.specs.declared.item.Item.{Item}
 use Rattle.path_walk.specs.declared.proof.Proof.{Proof}

@@ -14,7 +14,7 @@ use Rattle.claims.specs.Exact.{Exact, FirstReturns}
 use Rattle.claims.specs.LinkExact.{FirstReturnsIn, LinkExact}
 use Rattle.claims.specs.Turns.{InFirstMemory, RunsBack}
 use Rattle.stack_offsets.specs.SplitExact.{SplitExact, UsesSplit}
-use Rattle.carried_claims.specs.Within.{IsExactIn, IsRightIn}
+use Rattle.mcdec_commands.specs.Within.{IsExactIn, IsRightIn}
 use Rattle.group_text.specs.Spelling.{group_tokens}
 use Rattle.proof_v2.specs.AnyVerdicts.{IsTextListing}
 use Rattle.fun_laws.specs.Rewriting.{AreRewritingSteps, with_defs}

@@ -12,4 +12,6 @@ pub mod SmtAnswer
 pub mod MigrateAnswer
 pub mod Output
 pub mod Answer
+pub mod Scripts
+pub mod Within
 pub mod inner

@@ -7,7 +7,7 @@ use Rattle.smt_terms.specs.Sorts.{IsScript}
 use Rattle.smt_terms.specs.Text.{script_text}
 use Rattle.smt_export.specs.Reach.{IsLeastLoop, IsLoopFree, ReachesByCalls}
 use Rattle.smt_export.specs.Telling.{HasFuns, TellsEval}
-use Rattle.carried_claims.specs.Scripts.{TellsClaims}
+use Rattle.mcdec_commands.specs.Scripts.{TellsClaims}
 use Rattle.mcdec_answers.specs.declared.answer.Answer.{Answer}
 use Rattle.mcdec_answers.specs.declared.answer.Answer.TheVariants.{Smt}
 use Rattle.mcdec_answers.specs.declared.answer.SmtAnswer.{SmtAnswer}

@@ -10,6 +10,7 @@ ghost use Rattle.mcdec_commands.specs.Output.{IsOutput, LeavesOut};
 ghost use Rattle.mcdec_answers.specs.Printed.{IsDelivered, IsPrinted, status};
 ghost use Rattle.mcdec_answers.specs.declared.answer.Answer.{Answer as AnswerOf};
 
+use crate::carried_claims::law_of_rewritten_functions;
 use crate::check::answer_check;
 use crate::decompile::answer_decompile;
 use crate::eval::answer_eval;
@@ -19,7 +20,6 @@ use crate::run::answer_run;
 use crate::selftest::answer_selftest;
 use crate::simplify::answer_simplify;
 use crate::smt::answer_smt;
-use carried_claims::law_of_rewritten_functions;
 use mc_shelf::{Shelf, Sink};
 use mcdec_answers::{Answer, Command, Unread, deliver, read_words};
 use std::alloc::Global;

@@ -16,8 +16,16 @@
 //! `rewritten`, that status 0 of `laws` carries what is claimed of a function over to the rewritten
 //! one; `written` and `kept`, what names hold afterwards. `law_of_written_texts` says that what
 //! `decompile`, `link` and `split` write is accepted.
+//!
+//! A certificate of rewriting says that other definitions evaluate as those of a group do, on
+//! 64-bit words and memories of bytes. So what the headline says of the group's function, and that
+//! nothing is lost, holds of the rewritten one in each state of the machine: there registers are
+//! 64-bit words (`law_of_rewritten_functions`). A script has functions whose values tell each
+//! evaluation. So where `ok` is true of what a state holds, the machine reaches what they tell, and
+//! where the machine returns, they tell with what (`law_of_exported_functions`).
 #![tactic(auto)]
 
+mod carried_claims;
 mod check;
 mod commands;
 mod decompile;
@@ -35,5 +43,6 @@ mod simplify;
 mod smt;
 mod written_texts;
 
+pub use carried_claims::{law_of_exported_functions, law_of_rewritten_functions};
 pub use commands::run_words;
 pub use written_texts::law_of_written_texts;

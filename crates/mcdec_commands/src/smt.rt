@@ -15,10 +15,10 @@ ghost use Rattle.mcdec_commands.specs.inner.Search.{Finds, HasText};
 ghost use Rattle.mcdec_commands.specs.inner.Writing.{IsTold, WritesOut};
 ghost use Rattle.mcdec_commands.specs.inner.Shelves.{ReadsThenWrites, WritesFile};
 
+use crate::carried_claims::law_of_exported_functions;
 use crate::load::{PROOF_LIMIT, not_read};
 use crate::output::write_answer;
 use crate::search::{Refusal, find_group};
-use carried_claims::law_of_exported_functions;
 use mc_shelf::{Shelf, read_file};
 use mcdec_answers::{Answer, Smt, SmtAnswer};
 use smt_export::{ExportFault, export};

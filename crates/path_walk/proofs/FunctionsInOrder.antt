@@ -5,8 +5,8 @@ use Rattle.std.specs.Prelude.{option_map, slice_get}
 use Rattle.std.specs.List.{AllByRecursion, sum_by}
 use Rattle.std.proofs.lemmas.List.{take_more}
 use Rattle.std.proofs.lemmas.List.Sums.{sum_by-cons, sum_by_push}
-use Rattle.call_graph.specs.Functions.{size_of}
-use Rattle.call_graph.specs.declared.function.Function.{Function}
+use Rattle.code_parts.specs.Functions.{size_of}
+use Rattle.code_parts.specs.declared.linked_function.Function.{Function}
 use Rattle.rv_words.specs.Bytes.{Bytes, AreBytes}
 use Rattle.rv_words.specs.declared.range.Range.{Range}
 use Rattle.rv_decode.specs.declared.instruction.Instr.TheVariants as instr

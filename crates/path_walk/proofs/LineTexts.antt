@@ -13,7 +13,7 @@ use Rattle.rv_words.specs.Operation.{word_of}
 use Rattle.rvc.specs.Number.{is_word, length_of}
 use Rattle.instr_axioms.proofs.AxiomLemmas.{word_code-ranges}
 use Rattle.word_terms.specs.Tree.{WordTree, MemTree, CondTree, Const, Var, MemVar}
-use Rattle.term_text.specs.Limits.{IsCond, IsMem, IsWord}
+use Rattle.group_text.specs.TermLimits.{IsCond, IsMem, IsWord}
 use Rattle.sep_assert.specs.Code.{Agree, IsWithin}
 use Rattle.tailrec_lang.specs.declared.group.Exit.{Exit}
 use Rattle.tailrec_lang.specs.declared.group.Exit.TheVariants.{At, Ret}

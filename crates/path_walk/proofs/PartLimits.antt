@@ -9,7 +9,7 @@ use Rattle.rv_decode.specs.declared.instruction.Instr.{Instr}
 use Rattle.rv_decode.specs.declared.instruction.Instr.TheVariants as instr
 use Rattle.rv_machine.specs.Step.{upper}
 use Rattle.word_terms.specs.Tree.{CondTree, Const, Var, MemVar}
-use Rattle.term_text.specs.Limits.{FitsWord, IsWord, IsMem, IsCond}
+use Rattle.group_text.specs.TermLimits.{FitsWord, IsWord, IsMem, IsCond}
 use Rattle.tailrec_lang.specs.declared.group.Exit.{Exit}
 use Rattle.tailrec_lang.specs.declared.group.Exit.TheVariants.{At, Ret}
 use Rattle.tailrec_lang.specs.Tree.{StepTree, Bind, BindMem, Need, BodyTree, Call, Again, Leave, NoArm, Arm, with_steps}

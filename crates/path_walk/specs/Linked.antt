@@ -6,7 +6,7 @@ use Rattle.group_text.specs.declared.version.Version.TheVariants.{Three}
 use Rattle.group_text.specs.Version.{version_of}
 use Rattle.proof_text.specs.Line.{line_tree}
 use Rattle.proof_text.specs.LineLimits.{IsLineIn}
-use Rattle.call_graph.specs.Functions.{size_of}
+use Rattle.code_parts.specs.Functions.{size_of}
 use Rattle.code_parts.specs.Groups.{functions_of, group_in}
 use Rattle.code_parts.specs.declared.linked.LinkedGroup.{LinkedGroup}
 use Rattle.path_walk.specs.declared.item.Item.{Item}

@@ -3,7 +3,7 @@
 ghost use Rattle.std.specs.Prelude.{◌≡◌, ◌++◌, List as Items, ◌<◌, ◌^◌, IfOk, OnOk, map, option_copied, option_map};
 ghost use Rattle.rv_words.specs.Ranges.{range_bytes};
 ghost use Rattle.word_terms.specs.Tree.{Const, word_tree};
-ghost use Rattle.term_text.specs.Limits.{IsWord};
+ghost use Rattle.group_text.specs.TermLimits.{IsWord};
 ghost use Rattle.sep_assert.specs.Code.{IsWithin};
 ghost use Rattle.sep_assert.specs.Tree.{assertion_tree};
 ghost use Rattle.triple_kernel.specs.Tree.{FactTree, fact_tree, triple_tree};

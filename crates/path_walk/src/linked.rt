@@ -6,7 +6,7 @@ ghost use Rattle.tailrec_lang.specs.Tree.{def_tree};
 ghost use Rattle.group_text.specs.declared.version.Version.TheVariants.{Three};
 ghost use Rattle.proof_text.specs.Line.{line_tree};
 ghost use Rattle.verdicts.specs.Instance.{after_lines};
-ghost use Rattle.call_graph.specs.Functions.{size_of as the_size};
+ghost use Rattle.code_parts.specs.Functions.{size_of as the_size};
 ghost use Rattle.code_parts.specs.Bodies as spec;
 ghost use Rattle.code_parts.specs.Graph.{IsPart};
 ghost use Rattle.code_parts.specs.Kept.{flow_in};

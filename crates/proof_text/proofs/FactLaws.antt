@@ -11,19 +11,18 @@ use Rattle.mc_text.proofs.Inline.{reads-list}
 use Rattle.mc_text.proofs.Choices.{reads-made}
 use Rattle.mc_text.proofs.Shown.{Always}
 use Rattle.word_terms.specs.Tree.{WordTree, MemTree, CondTree}
-use Rattle.term_text.specs.Limits.{depth_limit, IsWord, IsMem, IsCond}
-use Rattle.term_text.specs.Spelling.{word_tokens, mem_tokens, cond_tokens}
-use Rattle.term_text.specs.Reading.{word_at, mem_at, cond_at, begins_word, begins_mem, opened}
-use Rattle.term_text.proofs.TermFacts.{word-flat, mem-flat, cond-flat, word-begins, mem-begins}
-use Rattle.term_text.proofs.TermLaws.{word-law, mem-law, cond-law, word-shrinks, mem-shrinks}
+use Rattle.group_text.specs.TermLimits.{depth_limit, IsWord, IsMem, IsCond}
+use Rattle.group_text.specs.TermSpelling.{word_tokens, mem_tokens, cond_tokens}
+use Rattle.group_text.specs.TermReading.{word_at, mem_at, cond_at, begins_word, begins_mem, opened}
+use Rattle.group_text.proofs.TermFacts.{word-flat, mem-flat, cond-flat, word-begins, mem-begins}
+use Rattle.group_text.proofs.TermLaws.{word-law, mem-law, cond-law, word-shrinks, mem-shrinks}
 use Rattle.tailrec_lang.specs.Tree.{ValuesTree}
 use Rattle.triple_kernel.specs.Tree.{FactTree, WordIs, MemIs, So, Gives}
 use Rattle.proof_text.specs.declared.line_heads.FactHead.{FactHead}
 use Rattle.proof_text.specs.declared.line_heads.FactHead.TheVariants as fact_head
-use Rattle.group_text.specs.Limits.{IsValues}
+use Rattle.group_text.specs.Limits.{IsValues, index_limit}
 use Rattle.group_text.specs.Spelling.{number, values_tokens}
 use Rattle.proof_text.specs.LineSpelling.{fact_tokens}
-use Rattle.group_text.specs.Limits.{index_limit}
 use Rattle.proof_text.specs.LineLimits.{IsFact}
 use Rattle.proof_text.specs.inner.LineReading.{index_at, values_with, fact_name, fact_heads, fact_head_of, fact_parts, fact_at}
 use Rattle.group_text.proofs.StepLaws.{shrinks, atom-flat, number-law}

@@ -6,8 +6,8 @@ use Rattle.mc_text.specs.inner.Reading.{is_semi, keyed}
 use Rattle.mc_text.proofs.ReaderLaws.{Reads, Stops, StaysFlat, IsFlat, AreAlike, IsElse, keyed-cases, keyed-hit, keyed-miss, Reads-one, Reads-pair, Reads-with}
 use Rattle.mc_text.proofs.Choices.{reads-put}
 use Rattle.mc_text.proofs.Shown.{Always, shows-left, shows-right, shows-semi, shows-atom}
-use Rattle.term_text.specs.Reading.{named, opened}
-use Rattle.term_text.proofs.NameTests.{named-there}
+use Rattle.group_text.specs.TermReading.{named, opened}
+use Rattle.group_text.proofs.NameTests.{named-there}
 
 -- ---- what a word leads to
 

@@ -8,9 +8,9 @@ use Rattle.mc_text.proofs.Lines.{AreTokens}
 use Rattle.mc_text.proofs.Shown.{decimal-atom, hex-atom, tokens-append, tokens-each}
 use Rattle.rv_words.specs.declared.range.Range.{Range}
 use Rattle.word_terms.specs.Tree.{WordTree, MemTree}
-use Rattle.term_text.specs.Limits.{IsWord, IsMem}
-use Rattle.term_text.specs.Spelling.{word_tokens, mem_tokens, cond_tokens, range_tokens}
-use Rattle.term_text.proofs.TermFacts.{word-tokens, mem-tokens, cond-tokens}
+use Rattle.group_text.specs.TermLimits.{IsWord, IsMem}
+use Rattle.group_text.specs.TermSpelling.{word_tokens, mem_tokens, cond_tokens, range_tokens}
+use Rattle.group_text.proofs.TermFacts.{word-tokens, mem-tokens, cond-tokens}
 use Rattle.sep_assert.specs.Tree.{AssertionTree}
 use Rattle.triple_kernel.specs.Tree.{FactTree, WordIs, MemIs, So, Gives, TripleTree}
 use Rattle.triple_kernel.specs.declared.form.Form.{Form}

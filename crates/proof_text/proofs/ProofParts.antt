@@ -7,7 +7,7 @@ use Rattle.mc_text.proofs.Lines.{EndsIn, IsLines}
 use Rattle.mc_text.proofs.Printed.{spell-after_lines}
 use Rattle.rv_words.specs.declared.range.Range.{Range}
 use Rattle.tailrec_lang.specs.Tree.{GroupTree}
-use Rattle.term_text.specs.Spelling.{joined}
+use Rattle.group_text.specs.TermSpelling.{joined}
 use Rattle.group_text.specs.Version.{Version}
 use Rattle.proof_text.specs.Line.{RuleTree, Axiom, Inst, Frame, Compose, ExtendCode, Strengthen, Weaken, Discharge, UseExit, LineTree, States, Loop, Forget, Further, ProofOf}
 use Rattle.group_text.specs.Spelling.{number, address, group_tokens, title_tokens, end_tokens, text_in}

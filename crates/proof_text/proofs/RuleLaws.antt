@@ -13,13 +13,13 @@ use Rattle.mc_text.proofs.Inline.{reads-list}
 use Rattle.mc_text.proofs.Choices.{reads-checked}
 use Rattle.mc_text.proofs.Shown.{Always, shows-atom, shows-decimal, shows-hex}
 use Rattle.word_terms.specs.Tree.{WordTree, MemTree}
-use Rattle.term_text.specs.Limits.{depth_limit, IsWord, IsMem}
-use Rattle.term_text.specs.Spelling.{word_tokens, mem_tokens}
-use Rattle.term_text.specs.Reading.{word_at, mem_at, opened, variable_of}
-use Rattle.term_text.proofs.TermFacts.{word-flat, mem-flat}
-use Rattle.term_text.proofs.TermLaws.{word-law, mem-law}
-use Rattle.term_text.proofs.NameTests.{mapped, either}
-use Rattle.term_text.proofs.Leaves.{variable, variable-back}
+use Rattle.group_text.specs.TermLimits.{depth_limit, IsWord, IsMem}
+use Rattle.group_text.specs.TermSpelling.{word_tokens, mem_tokens}
+use Rattle.group_text.specs.TermReading.{word_at, mem_at, opened, variable_of}
+use Rattle.group_text.proofs.TermFacts.{word-flat, mem-flat}
+use Rattle.group_text.proofs.TermLaws.{word-law, mem-law}
+use Rattle.group_text.proofs.NameTests.{mapped, either}
+use Rattle.group_text.proofs.TermLeaves.{variable, variable-back}
 use Rattle.triple_kernel.specs.declared.form.Form.{Form}
 use Rattle.triple_kernel.specs.declared.form.Form.TheVariants.{Next, Taken}
 use Rattle.proof_text.specs.declared.line_heads.RuleHead.{RuleHead}

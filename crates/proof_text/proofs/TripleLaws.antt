@@ -14,11 +14,11 @@ use Rattle.mc_text.proofs.Choices.{reads-made, reads-as, reads-told, reads-check
 use Rattle.mc_text.proofs.Shown.{Always}
 use Rattle.rv_words.specs.declared.range.Range.{Range}
 use Rattle.word_terms.specs.Tree.{WordTree, MemTree}
-use Rattle.term_text.specs.Limits.{depth_limit, IsWord, IsMem, IsRange}
-use Rattle.term_text.specs.Spelling.{word_tokens, mem_tokens, range_tokens}
-use Rattle.term_text.specs.Reading.{word_at, mem_at, range_at, begins_mem}
-use Rattle.term_text.proofs.TermFacts.{word-flat, mem-flat, range-flat, range-begins}
-use Rattle.term_text.proofs.TermLaws.{word-law, range-law, range-shrinks}
+use Rattle.group_text.specs.TermLimits.{depth_limit, IsWord, IsMem, IsRange}
+use Rattle.group_text.specs.TermSpelling.{word_tokens, mem_tokens, range_tokens}
+use Rattle.group_text.specs.TermReading.{word_at, mem_at, range_at, begins_mem}
+use Rattle.group_text.proofs.TermFacts.{word-flat, mem-flat, range-flat, range-begins}
+use Rattle.group_text.proofs.TermLaws.{word-law, range-law, range-shrinks}
 use Rattle.sep_assert.specs.Tree.{AssertionTree}
 use Rattle.triple_kernel.specs.Tree.{FactTree, TripleTree}
 use Rattle.group_text.specs.Spelling.{number}

@@ -28,7 +28,7 @@ use Rattle.std.specs.Fmt.{decimal}
 use Rattle.mc_text.specs.Tokens.{Tok, Left, Right, Semi, Atom, Eol}
 use Rattle.rv_words.specs.declared.range.Range.{Range}
 use Rattle.word_terms.specs.Tree.{WordTree, MemTree}
-use Rattle.term_text.specs.Spelling.{form, joined, word_tokens, mem_tokens, cond_tokens, range_tokens}
+use Rattle.group_text.specs.TermSpelling.{form, joined, word_tokens, mem_tokens, cond_tokens, range_tokens}
 use Rattle.sep_assert.specs.Tree.{AssertionTree}
 use Rattle.triple_kernel.specs.Tree.{FactTree, WordIs, MemIs, So, Gives, TripleTree}
 use Rattle.triple_kernel.specs.declared.form.Form.{Form}

@@ -9,13 +9,12 @@ ghost use Rattle.triple_kernel.specs.Tree.{fact_tree};
 ghost use Rattle.proof_text.specs.inner.LineReading.{fact_at, fact_head_of, fact_parts, values_with};
 
 use crate::line_heads::{FactHead, fact_head_of};
-use group_text::read_index;
+use group_text::{read_cond, read_index, read_mem, read_mems, read_word, read_words};
 use mc_text::cursor::{accept, is_open, left, right, semi};
 use mc_text::{Scan, TokenError};
 use rv_words::List;
 use std::alloc::Global;
 use tailrec_lang::Values;
-use term_text::{read_cond, read_mem, read_mems, read_word, read_words};
 use triple_kernel::Fact;
 use word_terms::DEPTH_LIMIT;
 

@@ -3,7 +3,7 @@
 ghost use Rattle.std.specs.Prelude.{◌≡◌};
 ghost use Rattle.proof_text.specs.inner.LineReading.{axiom_form_of, fact_head_of, rule_head_of, rule_name, sub_head_of};
 
-use term_text::variable_of;
+use group_text::variable_of;
 use triple_kernel::Form;
 
 /// The forms of facts.

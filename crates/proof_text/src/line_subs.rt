@@ -8,11 +8,11 @@ ghost use Rattle.proof_text.specs.inner.LineReading.{mems_of, sub_at, sub_head_o
 ghost use Rattle.proof_text.specs.inner.Subs.{put_tree};
 
 use crate::line_heads::{SubHead, sub_head_of};
+use group_text::{read_mem, read_word};
 use mc_text::cursor::{accept, is_open, left, peek, right};
 use mc_text::{Scan, Token, TokenError};
 use rv_words::{List, NoMemory};
 use std::alloc::Global;
-use term_text::{read_mem, read_word};
 use word_terms::{DEPTH_LIMIT, Mem, Sub, Word};
 
 /// A term that is put in for a variable.

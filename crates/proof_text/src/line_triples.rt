@@ -12,13 +12,12 @@ ghost use Rattle.proof_text.specs.inner.LineReading.{assertion_at, code_at, has_
 
 use crate::line_facts::read_facts;
 use crate::put_lines::is_own;
-use group_text::{ranges_rise, read_register};
+use group_text::{ranges_rise, read_mems, read_ranges, read_register, read_word};
 use mc_text::cursor::{is_open, keyword, left, peek, right, semi};
 use mc_text::{Scan, Token, TokenError};
 use rv_words::{List, NoMemory};
 use sep_assert::Assertion;
 use std::alloc::Global;
-use term_text::{read_mems, read_ranges, read_word};
 use triple_kernel::Triple;
 use word_terms::{Code, DEPTH_LIMIT, Word};
 

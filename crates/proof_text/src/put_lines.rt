@@ -15,12 +15,11 @@ ghost use Rattle.group_text.specs.Spelling.{number, values_tokens};
 ghost use Rattle.group_text.specs.Version.{version_of};
 
 use crate::line::{Line, Rule};
-use group_text::{Version, put_mems, put_ranges, put_values};
+use group_text::{Version, put_cond, put_mem, put_mems, put_ranges, put_values, put_word};
 use mc_text::Pen;
 use rv_words::{Bytes, NoMemory};
 use sep_assert::{Assertion, same_code};
 use tailrec_lang::{Group, Values};
-use term_text::{put_cond, put_mem, put_word};
 use triple_kernel::{Fact, Form, Triple};
 use word_terms::{Code, Mem, Sub, Word};
 

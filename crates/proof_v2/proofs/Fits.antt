@@ -5,7 +5,7 @@ use Rattle.std.specs.List.{AllByRecursion}
 use Rattle.std.proofs.lemmas.Option.{slice_get_within}
 use Rattle.std.proofs.lemmas.List.Elements.{All-head, All-tail, All-weaker, recursion_from_All}
 use Rattle.tailrec_lang.specs.Registers.{AreRegistersFrom}
-use Rattle.term_text.specs.Limits.{IsMem, IsWord}
+use Rattle.group_text.specs.TermLimits.{IsMem, IsWord}
 use Rattle.proof_text.specs.LineLimits.{AreRisingFrom, IsAssertion, IsFact}
 use Rattle.term_arena.specs.declared.node.Node.{Node}
 use Rattle.term_arena.specs.Arena.{OfCond, OfMem, OfWord, IsCondAt, IsMemAt, IsWordAt, cond_of, mem_of, trees_of, word_of}

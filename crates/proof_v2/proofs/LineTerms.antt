@@ -7,7 +7,7 @@ use Rattle.word_terms.specs.Tree.{WordTree, MemTree}
 use Rattle.tailrec_lang.specs.Tree.{ValuesTree}
 use Rattle.sep_assert.specs.Tree.{AssertionTree}
 use Rattle.triple_kernel.specs.Tree.{FactTree, WordIs, MemIs, So, Gives, TripleTree}
-use Rattle.term_text.specs.Limits.{IsMem, IsWord}
+use Rattle.group_text.specs.TermLimits.{IsMem, IsWord}
 use Rattle.group_text.specs.Limits.{IsValues}
 use Rattle.frame_compose.specs.Rules.{is_listed}
 use Rattle.term_arena.specs.Arena.{Tree, OfWord, OfMem, OfCond}

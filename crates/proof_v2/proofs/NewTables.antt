@@ -4,7 +4,7 @@ use Rattle.std.specs.Prelude.{All, max, slice_get, unwrap_or}
 use Rattle.std.proofs.lemmas.Option.{slice_get_within, get_or_from_slice_get}
 use Rattle.std.proofs.lemmas.List.Elements.{All-append, All-cons, All-head, All-nil, All-push, All-tail, All-weaker}
 use Rattle.word_terms.specs.Tree.{WordTree, MemTree, CondTree, Const, Var, Bin, Extend, Load, MemVar, Store, Compare, Neg, Inside}
-use Rattle.term_text.specs.Limits.{FitsCond, FitsMem, FitsWord, depth_limit}
+use Rattle.group_text.specs.TermLimits.{FitsCond, FitsMem, FitsWord, depth_limit}
 use Rattle.term_arena.specs.declared.node.Node.{Node}
 use Rattle.term_arena.specs.declared.node.Node.TheVariants as node
 use Rattle.term_arena.specs.Arena.{Tree, OfWord, OfMem, OfCond, AreBelow, AreChildren, ArePutIn, IsArena, cond_subterms, mem_subterms, tree_of, tree_over, trees_of, word_subterms}

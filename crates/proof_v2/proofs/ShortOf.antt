@@ -11,7 +11,7 @@ use Rattle.sep_assert.specs.declared.assertion.Assertion.{Assertion}
 use Rattle.sep_assert.specs.Tree.{AssertionTree}
 use Rattle.triple_kernel.specs.Tree.{FactTree, TripleTree}
 use Rattle.triple_kernel.specs.declared.form.Form.{Form}
-use Rattle.term_text.specs.Limits.{IsMem, IsWord}
+use Rattle.group_text.specs.TermLimits.{IsMem, IsWord}
 use Rattle.frame_compose.specs.Rules.{further, is_listed, rest_after}
 use Rattle.proof_text.specs.Line.{LineTree, States, Loop, Forget, Further, line_or_own, triple_or_own, RuleTree, Axiom, Inst, Frame, Compose, ExtendCode, Strengthen, Weaken, Discharge, UseExit}
 use Rattle.proof_text.specs.LineLimits.{AreRisingFrom, IsAssertion, IsFact, IsLine}

@@ -1,7 +1,7 @@
 -- Which terms the short line of a line of version 1 has. Put into a table in this order, each with its subterms, children first, they are
 -- the terms of version 2 in the order in which they are first used.
 use Rattle.std.specs.Prelude.{ℕ, List, [], ◌∷◌, ◌++◌, flat_map, map, option_map, unwrap_or}
-use Rattle.term_text.specs.Limits.{FitsCond, FitsMem, FitsWord, depth_limit}
+use Rattle.group_text.specs.TermLimits.{FitsCond, FitsMem, FitsWord, depth_limit}
 use Rattle.term_arena.specs.Arena.{Tree, OfWord, OfMem, OfCond}
 use Rattle.sep_assert.specs.Tree.{AssertionTree}
 use Rattle.triple_kernel.specs.Tree.{TripleTree}

@@ -16,8 +16,8 @@ use Rattle.decompiler.specs.Names.{Spells, StandsFor}
 use Rattle.decompiler.specs.Faults.{IsCauseAlone, IsFirst, IsOutside, Missing, Doubled, InFunction, InCode, InCycle, InLoop}
 use Rattle.decompiler.specs.Listing.{IsRefusedBy, alone_form}
 use Rattle.decompiler.specs.Refusals.{IsFaultBy}
-use Rattle.call_graph.specs.declared.fault.LinkWhy.{LinkWhy}
-use Rattle.call_graph.specs.declared.fault.LinkWhy.TheVariants as link
+use Rattle.code_parts.specs.declared.call_fault.LinkWhy.{LinkWhy}
+use Rattle.code_parts.specs.declared.call_fault.LinkWhy.TheVariants as link
 use Rattle.path_walk.specs.declared.proof.DecompileFault.{DecompileFault}
 use Rattle.path_walk.specs.declared.proof.DecompileFault.TheVariants.{Refused}
 use Rattle.self_test.specs.Start.{file_of, function_name}

@@ -10,7 +10,7 @@ use Rattle.mc_text.proofs.Star.{Shrinks}
 use Rattle.mc_text.proofs.Inline.{reads-list}
 use Rattle.mc_text.proofs.Choices.{reads-as, reads-made, reads-checked}
 use Rattle.mc_text.proofs.Shown.{Always}
-use Rattle.term_text.specs.Reading.{opened}
+use Rattle.group_text.specs.TermReading.{opened}
 use Rattle.term_arena.specs.declared.node.Node.{Node}
 use Rattle.group_text.specs.Limits.{index_limit}
 use Rattle.group_text.specs.Spelling.{number}

@@ -10,7 +10,7 @@ use Rattle.mc_text.specs.Scanning.{tokens_at}
 use Rattle.mc_text.specs.Outcome.{Gives}
 use Rattle.mc_text.specs.declared.cursor.TokenError.{TokenError}
 use Rattle.mc_text.specs.declared.cursor.TokenError.TheVariants as stop
-use Rattle.term_text.specs.Limits.{depth_limit}
+use Rattle.group_text.specs.TermLimits.{depth_limit}
 use Rattle.term_arena.specs.declared.node.Node.{Node}
 use Rattle.term_arena.specs.Arena.{AreChildren, IsAdded, Was_there, Is_next, IsArena}
 use Rattle.group_text.proofs.HeadLaws.{le-true, true-le}

@@ -17,9 +17,9 @@ use Rattle.rv_words.specs.declared.comparison.Cmp.{Cmp}
 use Rattle.rv_words.specs.declared.comparison.Cmp.TheVariants.{Eq, Ne, Lt, Ge, Ltu, Geu}
 use Rattle.rv_words.specs.declared.width.Width.{Width}
 use Rattle.rv_words.specs.declared.width.Width.TheVariants.{B1, B2, B4, B8}
-use Rattle.term_text.specs.Reading.{variable_of, or_option, form_of, opened}
-use Rattle.term_text.proofs.NameTests.{mapped, either}
-use Rattle.term_text.proofs.Leaves.{variable, variable-back}
+use Rattle.group_text.specs.TermReading.{variable_of, or_option, form_of, opened}
+use Rattle.group_text.proofs.NameTests.{mapped, either}
+use Rattle.group_text.proofs.TermLeaves.{variable, variable-back}
 use Rattle.term_arena.specs.declared.node.Node.{Node}
 use Rattle.term_arena.specs.declared.node.Node.TheVariants as node
 use Rattle.group_text.proofs.StepLaws.{atom-flat, name-law, eol-law}

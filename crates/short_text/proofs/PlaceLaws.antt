@@ -12,9 +12,9 @@ use Rattle.mc_text.proofs.Star.{Shrinks}
 use Rattle.mc_text.proofs.Inline.{reads-list}
 use Rattle.mc_text.proofs.Closed.{reads-closed}
 use Rattle.mc_text.proofs.Shown.{Always, shows-atom}
-use Rattle.term_text.specs.Reading.{opened, variable_of}
-use Rattle.term_text.proofs.NameTests.{mapped, either}
-use Rattle.term_text.proofs.Leaves.{variable, variable-back}
+use Rattle.group_text.specs.TermReading.{opened, variable_of}
+use Rattle.group_text.proofs.NameTests.{mapped, either}
+use Rattle.group_text.proofs.TermLeaves.{variable, variable-back}
 use Rattle.term_arena.specs.declared.node.Node.{Node}
 use Rattle.group_text.specs.Limits.{index_limit}
 use Rattle.group_text.proofs.StepLaws.{shrinks, eol-law}

@@ -13,11 +13,11 @@ use Rattle.mc_text.proofs.Closed.{reads-closed}
 use Rattle.mc_text.proofs.Choices.{reads-as, reads-put}
 use Rattle.mc_text.proofs.Shown.{Always, shows-atom, shows-hex}
 use Rattle.rv_words.specs.declared.range.Range.{Range}
-use Rattle.term_text.specs.Limits.{IsRange}
-use Rattle.term_text.specs.Spelling.{joined, range_tokens}
-use Rattle.term_text.specs.Reading.{range_at}
-use Rattle.term_text.proofs.TermFacts.{range-flat, range-begins}
-use Rattle.term_text.proofs.TermLaws.{range-law, range-shrinks}
+use Rattle.group_text.specs.TermLimits.{IsRange}
+use Rattle.group_text.specs.TermSpelling.{joined, range_tokens}
+use Rattle.group_text.specs.TermReading.{range_at}
+use Rattle.group_text.proofs.TermFacts.{range-flat, range-begins}
+use Rattle.group_text.proofs.TermLaws.{range-law, range-shrinks}
 use Rattle.triple_kernel.specs.declared.form.Form.{Form}
 use Rattle.triple_kernel.specs.declared.form.Form.TheVariants.{Next, Taken}
 use Rattle.term_arena.specs.declared.node.Node.{Node}

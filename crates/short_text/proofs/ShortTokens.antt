@@ -8,7 +8,7 @@ use Rattle.mc_text.proofs.Atoms.{letter-atom, word-atom}
 use Rattle.mc_text.proofs.Lines.{AreTokens}
 use Rattle.mc_text.proofs.Shown.{decimal-atom, hex-atom, tokens-append, tokens-each}
 use Rattle.rv_words.specs.declared.range.Range.{Range}
-use Rattle.term_text.specs.Spelling.{range_tokens}
+use Rattle.group_text.specs.TermSpelling.{range_tokens}
 use Rattle.tailrec_lang.specs.Registers.{AreRegistersFrom}
 use Rattle.term_arena.specs.declared.node.Node.{Node}
 use Rattle.triple_kernel.specs.declared.form.Form.{Form}

@@ -18,7 +18,7 @@ use Rattle.rv_words.specs.declared.operation.Op.TheVariants.{Add, Sub, Sll, Slt,
 use Rattle.rv_words.specs.declared.extension.Ext.TheVariants.{Sx1, Sx2, Sx4}
 use Rattle.rv_words.specs.declared.comparison.Cmp.TheVariants.{Eq, Ne, Lt, Ge, Ltu, Geu}
 use Rattle.rv_words.specs.declared.width.Width.TheVariants.{B1, B2, B4, B8}
-use Rattle.term_text.specs.Limits.{depth_limit}
+use Rattle.group_text.specs.TermLimits.{depth_limit}
 use Rattle.term_arena.specs.declared.node.Node.{Node}
 use Rattle.term_arena.specs.declared.node.Node.TheVariants as node
 use Rattle.term_arena.specs.Arena.{AreChildren}

@@ -27,7 +27,7 @@ use Rattle.mc_text.specs.Number.{hex}
 use Rattle.mc_text.specs.Tokens.{Tok, Left, Right, Semi, Atom}
 use Rattle.rv_words.specs.Operation.{operation_name, comparison_name}
 use Rattle.rv_words.specs.declared.range.Range.{Range}
-use Rattle.term_text.specs.Spelling.{extension_name, access_name, form, joined}
+use Rattle.group_text.specs.TermSpelling.{extension_name, access_name, form, joined}
 use Rattle.term_arena.specs.declared.node.Node.{Node}
 use Rattle.term_arena.specs.declared.node.Node.TheVariants as node
 use Rattle.group_text.specs.Spelling.{line, number, address}

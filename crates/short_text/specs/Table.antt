@@ -1,7 +1,7 @@
 -- Tables of terms: each term cites earlier ones, of the kinds that it has in these places, and is none of them.
 use Rattle.std.specs.Prelude.{ℕ, ◌+◌, ◌<◌, ◌≤◌, ◌^◌, max, List, [], ◌∷◌, ◌++◌, fold, slice_get, unwrap_or, Contains}
 use Rattle.mc_text.specs.Number.{IsNumber}
-use Rattle.term_text.specs.Limits.{depth_limit}
+use Rattle.group_text.specs.TermLimits.{depth_limit}
 use Rattle.term_arena.specs.declared.node.Node.{Node}
 use Rattle.term_arena.specs.declared.node.Node.TheVariants as node
 use Rattle.term_arena.specs.Arena.{AreChildren}

@@ -3,11 +3,11 @@
 ghost use Rattle.std.specs.Prelude.{◌≡◌};
 ghost use Rattle.short_text.specs.inner.ShortReading.{fact_name_of, node_head_name, node_head_of, short_head_of, short_name};
 
-use rv_words::{Cmp, Ext, Op, Width};
-use term_text::{
+use group_text::{
     name_of_comparison, name_of_extension, name_of_inside, name_of_load, name_of_operation,
     name_of_store,
 };
+use rv_words::{Cmp, Ext, Op, Width};
 
 /// The forms of terms that have parts.
 #[derive(Clone, Copy, PartialEq, Eq)]

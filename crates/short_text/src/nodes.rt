@@ -7,10 +7,10 @@ ghost use Rattle.short_text.specs.inner.ShortReading.{node_at, node_head_of, nod
 
 use crate::heads::{NodeHead, node_head_of};
 use crate::terms::read_any_term;
+use group_text::variable_of;
 use mc_text::cursor::{accept, peek, right};
 use mc_text::{Scan, Token, TokenError, hexnum};
 use term_arena::Node;
-use term_text::variable_of;
 
 /// The variable or constant that an atom spells.
 #[tactic(auto, unfolding(crate::specs::inner::ShortReading::node_leaf_of))]

@@ -8,12 +8,12 @@ ghost use Rattle.short_text.specs.inner.ShortReading.{mem_places, place_at, plac
 
 use crate::kind::Kind;
 use crate::terms::read_term;
+use group_text::variable_of;
 use mc_text::cursor::{accept, is_open, left, peek, right};
 use mc_text::{Scan, Token, TokenError};
 use rv_words::{List, NoMemory};
 use std::alloc::Global;
 use term_arena::Node;
-use term_text::variable_of;
 
 /// A variable of a word or of a memory.
 #[derive(Clone, Copy, PartialEq, Eq)]

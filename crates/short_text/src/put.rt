@@ -7,7 +7,7 @@ ghost use Rattle.mc_text.specs.Printing.{BeginsWith, Keeps, page, print};
 ghost use Rattle.mc_text.specs.Tokens.{Atom, Semi, spell};
 ghost use Rattle.mc_text.specs.declared.token.Before.TheVariants.{Start};
 ghost use Rattle.group_text.specs.Spelling.{address, line, number};
-ghost use Rattle.term_text.specs.Spelling.{form};
+ghost use Rattle.group_text.specs.TermSpelling.{form};
 ghost use Rattle.proof_text.specs.Line.{code_or_own};
 ghost use Rattle.proof_text.specs.LineSpelling.{code_tokens, form_tokens};
 ghost use Rattle.tailrec_lang.specs.Tree.{group_tree};
@@ -15,6 +15,10 @@ ghost use Rattle.short_text.specs.ShortSpelling.{held_fact_tokens, held_register
 ghost use Rattle.short_text.specs.SpelledShort.{short_or_own};
 
 use crate::short::Short;
+use group_text::{
+    name_of_comparison, name_of_extension, name_of_inside, name_of_load, name_of_operation,
+    name_of_store,
+};
 use held_terms::{HeldFact, HeldSide, HeldValues};
 use itoa::Buffer;
 use mc_text::Pen;
@@ -22,10 +26,6 @@ use proof_text::{put_cited, put_form, put_stated_code, put_theorems};
 use rv_words::{Bytes, NoMemory};
 use tailrec_lang::Group;
 use term_arena::Node;
-use term_text::{
-    name_of_comparison, name_of_extension, name_of_inside, name_of_load, name_of_operation,
-    name_of_store,
-};
 use triple_kernel::Form;
 use word_terms::Code;
 

@@ -15,7 +15,7 @@ use crate::places::{Place, mem_places, read_places, word_places};
 use crate::short::Short;
 use crate::sides::{read_held_side, read_rising};
 use crate::terms::read_terms;
-use group_text::read_index;
+use group_text::{read_index, read_ranges};
 use held_terms::{HeldFact, HeldSide};
 use mc_text::cursor::{accept, address, eol, keyword, peek};
 use mc_text::{Scan, Token, TokenError};
@@ -23,7 +23,6 @@ use proof_text::{is_other_code, read_form, read_instruction, read_theorem, read_
 use rv_words::List;
 use std::alloc::Global;
 use term_arena::Node;
-use term_text::read_ranges;
 use word_terms::Code;
 
 // ---- code

@@ -10,4 +10,6 @@ pub mod Accesses
 pub mod Memory
 pub mod Functions
 pub mod Knowing
+pub mod Elements
+pub mod Values
 pub mod inner

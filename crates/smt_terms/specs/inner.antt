@@ -1,2 +1,10 @@
 pub mod Sizes
 pub mod Listed
+pub mod Datum
+pub mod Operators
+pub mod Applied
+pub mod Heads
+pub mod Finding
+pub mod Scope
+pub mod Telling
+pub mod Taking

@@ -12,7 +12,7 @@ ghost use Rattle.decompiler.specs.inner.Functions.{IsNoFunction};
 ghost use Rattle.stack_split.specs.Listing.{IsSplitItemFor, split_form};
 ghost use Rattle.stack_split.specs.inner.Accesses.{AreStackAccesses};
 
-use call_graph::CallGraphFault;
+use code_parts::CallGraphFault;
 use decompiler::{MakeItems, cause_of, fault_alone, items_of, law_of_bytes};
 use elf_image::{Image, law_of_image};
 use flow_graph::{FlowFault, Graph, build};

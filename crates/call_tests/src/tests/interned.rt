@@ -1,10 +1,10 @@
 //! Terms have numbers, equal ones for equal terms.
 
+use group_text::{read_cond, read_mem, read_word};
 use mc_text::Scan;
 use rv_words::List;
 use std::alloc::Global;
 use term_arena::Arena;
-use term_text::{read_cond, read_mem, read_word};
 use word_terms::DEPTH_LIMIT;
 
 /// Words, of which some are the same. Their terms are made of 10 different ones, with `m0` and

@@ -4,8 +4,7 @@
 use fun_laws::{CertFault, cert_bytes, judge_cert, read_cert, simplify};
 use rv_words::List;
 use smt_export::export;
-use smt_terms::{Script, script_bytes};
-use smt_values::{Smt, value_of};
+use smt_terms::{Script, Smt, script_bytes, value_of};
 use std::alloc::Global;
 use tailrec_lang::{Group, well_formed};
 

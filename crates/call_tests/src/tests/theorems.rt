@@ -2,12 +2,12 @@
 //! nothing changes where no step is made.
 
 use super::rows::each;
+use group_text::read_cond;
 use mc_text::Scan;
 use rv_words::{List, Text};
 use sep_assert::{Assertion, same_assertion};
 use std::alloc::Global;
 use tailrec_lang::Group;
-use term_text::read_cond;
 use triple_kernel::{Fact, NoInstance, Thm, Triple, discharge, inst, strengthen, weaken};
 use word_terms::{Code, DEPTH_LIMIT, Sub, Word};
 

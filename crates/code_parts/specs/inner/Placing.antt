@@ -1,7 +1,7 @@
 -- Functions with their parts, one behind the other.
 use Rattle.std.specs.Prelude.{◌≡◌, ℕ, ◌+◌, List, [], ◌∷◌, map, length}
 use Rattle.std.specs.List.{All}
-use Rattle.call_graph.specs.declared.function.Function.{Function}
+use Rattle.code_parts.specs.declared.linked_function.Function.{Function}
 use Rattle.code_parts.specs.declared.callee.Callee.{Callee}
 use Rattle.code_parts.specs.Groups.{HasOrderedParts, called_as}
 use Rattle.code_parts.specs.declared.linked.LinkedFunction.{LinkedFunction}

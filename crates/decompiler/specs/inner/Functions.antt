@@ -12,9 +12,9 @@ use Rattle.flow_graph.specs.declared.outside.Outside.TheVariants.{NoSuch, Ambigu
 use Rattle.loop_forest.specs.Forest.{IsForestFault}
 use Rattle.path_walk.specs.declared.proof.DecompileFault.{DecompileFault}
 use Rattle.path_walk.specs.declared.proof.DecompileFault.TheVariants as refused
-use Rattle.call_graph.specs.declared.fault.CallGraphFault.{CallGraphFault}
-use Rattle.call_graph.specs.declared.fault.CallGraphFault.TheVariants as graph
-use Rattle.call_graph.specs.declared.fault.LinkWhy.TheVariants as link
+use Rattle.code_parts.specs.declared.call_fault.CallGraphFault.{CallGraphFault}
+use Rattle.code_parts.specs.declared.call_fault.CallGraphFault.TheVariants as graph
+use Rattle.code_parts.specs.declared.call_fault.LinkWhy.TheVariants as link
 use Rattle.decompiler.specs.declared.fault.LinkFault.{LinkFault}
 use Rattle.decompiler.specs.declared.fault.LinkFault.TheVariants as fault
 use Rattle.decompiler.specs.Faults.{IsFirst}

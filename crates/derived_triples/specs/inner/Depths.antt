@@ -1,6 +1,6 @@
 -- Terms that are at most so deep.
 use Rattle.std.specs.Prelude.{ℕ}
-use Rattle.term_text.specs.Limits.{FitsWord, FitsMem, FitsCond}
+use Rattle.group_text.specs.TermLimits.{FitsWord, FitsMem, FitsCond}
 use Rattle.term_arena.specs.Arena.{Tree, OfWord, OfMem, OfCond}
 
 -- the term is at most that deep, and its numbers fit

@@ -2,8 +2,8 @@
 use Rattle.std.specs.Prelude.{◌≡◌, List, [], ◌∷◌}
 use Rattle.word_terms.specs.Tree.{WordTree, MemTree, CondTree}
 use Rattle.tailrec_lang.specs.Tree.{ValuesTree, StepTree, Bind, BindMem, Need, BodyTree, Do, Branch, Call, Again, Leave, ArmTrees, NoArm, Arm, DefTree}
-use Rattle.term_laws.specs.Laws.{OfWord, OfMem, OfCond}
-use Rattle.term_laws.specs.Values.{KeepsValue}
+use Rattle.fun_laws.specs.Laws.{OfWord, OfMem, OfCond}
+use Rattle.fun_laws.specs.Values.{KeepsValue}
 
 -- as many items, each related to the one at its place
 abbrev pub EachPair : {A : Type 0} → (A → A → Type 0) → List A → List A → Type 0

@@ -3,9 +3,9 @@ use Rattle.std.specs.Prelude.{◌≡◌, ℕ, zero, suc, List, [], ◌∷◌, �
 use Rattle.rv_words.specs.declared.comparison.Cmp.TheVariants.{Eq}
 use Rattle.word_terms.specs.Tree.{WordTree, Const, MemTree, MemVar, CondTree, Compare}
 use Rattle.tailrec_lang.specs.Tree.{ValuesTree, StepTree, Bind, BindMem, Need, BodyTree, Do, Branch, Call, Again, Leave, ArmTrees, NoArm, Arm, DefTree}
-use Rattle.term_laws.specs.declared.step.Rw.{Rw}
-use Rattle.term_laws.specs.Laws.{Law, law_at, Term, OfWord, OfMem, OfCond}
-use Rattle.term_laws.specs.Places.{Rewrites}
+use Rattle.fun_laws.specs.declared.step.Rw.{Rw}
+use Rattle.fun_laws.specs.Laws.{Law, law_at, Term, OfWord, OfMem, OfCond}
+use Rattle.fun_laws.specs.Places.{Rewrites}
 use Rattle.fun_laws.specs.Rewriting.{step_term, AreRewritingSteps}
 
 -- ---- the skeleton

@@ -8,7 +8,7 @@ use Rattle.tailrec_lang.specs.Tree.{DefTree}
 use Rattle.group_text.specs.inner.Reading.{Head, name_of, group_of, mark_row, own_defs}
 use Rattle.group_text.specs.Version.{Version}
 use Rattle.group_text.specs.inner.GroupRows.{more_head}
-use Rattle.term_laws.specs.declared.step.Rw.{Rw}
+use Rattle.fun_laws.specs.declared.step.Rw.{Rw}
 use Rattle.fun_laws.specs.Spelling.{CertTree}
 
 -- ---- steps

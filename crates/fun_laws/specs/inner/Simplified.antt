@@ -3,12 +3,12 @@ use Rattle.std.specs.Prelude.{◌≡◌, ℕ, zero, suc, ◌+◌, List, [], ◌�
 use Rattle.std.specs.List.{AllByRecursion}
 use Rattle.word_terms.specs.Tree.{WordTree, MemTree}
 use Rattle.tailrec_lang.specs.Tree.{ValuesTree, StepTree, Bind, BindMem, Need, BodyTree, Do, Branch, Call, Again, Leave, ArmTrees, NoArm, Arm, DefTree}
-use Rattle.term_laws.specs.declared.step.Rw.{Rw}
-use Rattle.term_laws.specs.declared.log.Log.{Log}
-use Rattle.term_laws.specs.Laws.{Law, law_at, Term, OfWord, OfMem, OfCond}
-use Rattle.term_laws.specs.Places.{Rewrites}
-use Rattle.term_laws.specs.Simple.{IsSimple}
-use Rattle.term_laws.specs.inner.Steps.{IsNoted}
+use Rattle.fun_laws.specs.declared.step.Rw.{Rw}
+use Rattle.fun_laws.specs.declared.log.Log.{Log}
+use Rattle.fun_laws.specs.Laws.{Law, law_at, Term, OfWord, OfMem, OfCond}
+use Rattle.fun_laws.specs.Places.{Rewrites}
+use Rattle.fun_laws.specs.Simple.{IsSimple}
+use Rattle.fun_laws.specs.inner.Steps.{IsNoted}
 use Rattle.fun_laws.specs.Rewriting.{step_term, term_at, arm_term_at, value_at, with_step_term, with_word_term, with_mem_term, with_value, with_term, with_arm_term}
 
 -- ---- what has terms: which one has a number, and the same with another term there

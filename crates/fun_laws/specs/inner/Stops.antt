@@ -1,7 +1,7 @@
 -- Where steps stop.
 use Rattle.std.specs.Prelude.{List}
 use Rattle.tailrec_lang.specs.Tree.{DefTree}
-use Rattle.term_laws.specs.declared.step.Rw.{Rw}
+use Rattle.fun_laws.specs.declared.step.Rw.{Rw}
 use Rattle.fun_laws.specs.declared.rewrite.StepFault.{StepFault}
 use Rattle.fun_laws.specs.declared.rewrite.StepFault.TheVariants as fault
 use Rattle.fun_laws.specs.Certs.{IsFirstBad}

@@ -5,7 +5,7 @@ use Rattle.tailrec_lang.specs.Tree.{def_tree}
 use Rattle.fun_laws.specs.declared.apart.BodyTerm.{BodyTerm}
 use Rattle.fun_laws.specs.declared.apart.BodyTerm.TheVariants as term
 use Rattle.fun_laws.specs.declared.apart.ApartDef.{ApartDef}
-use Rattle.term_laws.specs.Laws.{Term, OfWord, OfMem, OfCond}
+use Rattle.fun_laws.specs.Laws.{Term, OfWord, OfMem, OfCond}
 use Rattle.fun_laws.specs.inner.Apart.{ApartTree}
 
 abbrev pub term_of : BodyTerm → Term

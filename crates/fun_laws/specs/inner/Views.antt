@@ -2,7 +2,7 @@
 use Rattle.std.specs.Prelude.{ℕ, List, map}
 use Rattle.tailrec_lang.specs.declared.group.Def.{Def}
 use Rattle.tailrec_lang.specs.Tree.{DefTree, def_tree}
-use Rattle.term_laws.specs.declared.step.Rw.{Rw}
+use Rattle.fun_laws.specs.declared.step.Rw.{Rw}
 use Rattle.fun_laws.specs.inner.Reading.{Mark, NameRow, Rest}
 
 abbrev pub name_view : List ℕ → NameRow

@@ -3,8 +3,8 @@ use Rattle.std.specs.Prelude.{ℕ, ◌^◌, Ok, codes}
 use Rattle.mc_text.specs.Reading.{Reader, pair, made, refused}
 use Rattle.mc_text.specs.inner.Reading.{eol, keyed, times, number_at}
 use Rattle.word_terms.specs.Tree.{CondTree, cond_tree}
-use Rattle.term_text.specs.Limits.{depth_limit}
-use Rattle.term_text.specs.Reading.{cond_at}
+use Rattle.group_text.specs.TermLimits.{depth_limit}
+use Rattle.group_text.specs.TermReading.{cond_at}
 use Rattle.tailrec_lang.specs.Tree.{ValuesTree, values_tree, BodyTree, Branch, Call, Again, Leave, arms_of}
 use Rattle.group_text.specs.inner.Reading.{mark_row, values_at, where_room, arm_bound, call_row, arm_at}
 use Rattle.group_text.specs.declared.body_rows.EndRow.{EndRow}

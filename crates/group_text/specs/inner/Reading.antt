@@ -6,8 +6,8 @@ use Rattle.mc_text.specs.Tokens.{Tok, Atom, is_atom_byte}
 use Rattle.mc_text.specs.Reading.{Reader, pair, with, made, one, atom_of, many, star, refused, address_at, is_open}
 use Rattle.mc_text.specs.inner.Reading.{is_semi, times, eol, word, keyed, checked, unless, number_at}
 use Rattle.rv_words.specs.declared.range.Range.{Range}
-use Rattle.term_text.specs.Limits.{depth_limit}
-use Rattle.term_text.specs.Reading.{word_at, mem_at, cond_at, range_at, begins_word, begins_mem}
+use Rattle.group_text.specs.TermLimits.{depth_limit}
+use Rattle.group_text.specs.TermReading.{word_at, mem_at, cond_at, range_at, begins_word, begins_mem}
 use Rattle.tailrec_lang.specs.Tree.{ValuesTree, StepTree, Bind, BindMem, Need, BodyTree, Branch, Call, Again, Leave, DefTree, GroupTree, with_steps, arms_of}
 use Rattle.tailrec_lang.specs.declared.group.Exit.{Exit}
 use Rattle.tailrec_lang.specs.declared.group.Exit.TheVariants.{At, Ret}

@@ -7,8 +7,8 @@ use Rattle.mc_text.specs.Reading.{Reader, pair, with, made, one, atom_of, below,
 use Rattle.mc_text.specs.inner.Reading.{is_semi, eol, word, keyed, checked, number_at}
 use Rattle.rv_words.specs.declared.range.Range.{Range}
 use Rattle.word_terms.specs.Tree.{WordTree, MemTree}
-use Rattle.term_text.specs.Limits.{depth_limit}
-use Rattle.term_text.specs.Reading.{named, or_option, variable_of, form_of, word_at, mem_at, cond_at, range_at, begins_word, begins_mem}
+use Rattle.group_text.specs.TermLimits.{depth_limit}
+use Rattle.group_text.specs.TermReading.{named, or_option, variable_of, form_of, word_at, mem_at, cond_at, range_at, begins_word, begins_mem}
 use Rattle.tailrec_lang.specs.Tree.{ValuesTree}
 use Rattle.sep_assert.specs.Tree.{AssertionTree}
 use Rattle.triple_kernel.specs.Tree.{FactTree, WordIs, MemIs, So, Gives, TripleTree}

@@ -12,9 +12,9 @@ use Rattle.rv_words.specs.declared.extension.Ext.TheVariants.{Sx1, Sx2, Sx4}
 use Rattle.rv_words.specs.declared.comparison.Cmp.TheVariants.{Eq, Ne, Lt, Ge, Ltu, Geu}
 use Rattle.rv_words.specs.declared.width.Width.TheVariants.{B1, B2, B4, B8}
 use Rattle.rv_words.specs.declared.range.Range.{Range}
-use Rattle.term_text.specs.Limits.{depth_limit}
-use Rattle.term_text.specs.Spelling.{extension_name, access_name}
-use Rattle.term_text.specs.Reading.{named, or_option, variable_of, form_of, range_at}
+use Rattle.group_text.specs.TermLimits.{depth_limit}
+use Rattle.group_text.specs.TermSpelling.{extension_name, access_name}
+use Rattle.group_text.specs.TermReading.{named, or_option, variable_of, form_of, range_at}
 use Rattle.term_arena.specs.declared.node.Node.{Node}
 use Rattle.term_arena.specs.declared.node.Node.TheVariants as node
 use Rattle.group_text.specs.inner.Reading.{has_atom, registers_rise}

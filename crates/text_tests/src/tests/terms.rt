@@ -1,14 +1,14 @@
 //! Terms are read and printed as they stand, have their values, and are put into one another.
 
 use super::rows::each;
+use group_text::{
+    put_cond, put_mem, put_range, put_word, read_cond, read_mem, read_mems, read_range,
+    read_ranges, read_word, read_words,
+};
 use mc_text::cursor::{address, atom, bytes, eol, keyword, left, number, right, semi};
 use mc_text::{Pen, Scan, TokenError, put_atom};
 use rv_words::{ByteMap, Bytes, List, Range};
 use std::alloc::Global;
-use term_text::{
-    put_cond, put_mem, put_range, put_word, read_cond, read_mem, read_mems, read_range,
-    read_ranges, read_word, read_words,
-};
 use word_terms::{
     Cond, DEPTH_LIMIT, Env, Mem, Sub, TermFault, Word, byte_of, depth_cond, depth_mem, depth_word,
     is_cond_in_scope, is_mem_in_scope, is_word_in_scope, subst_cond, subst_mem, subst_word, truth,

@@ -1,8 +1,8 @@
 use Rattle.std.proofs.Common.{List, subst, sym, ◌∙◌}
 use Rattle.rv_words.specs.Bytes.{AreBytes, Bytes}
 use Rattle.elf_image.specs.Image.{code_in}
-use Rattle.call_graph.specs.Functions.{AreFunctions}
-use Rattle.call_graph.specs.declared.function.Function.{Function}
+use Rattle.code_parts.specs.Functions.{AreFunctions}
+use Rattle.code_parts.specs.declared.linked_function.Function.{Function}
 use Rattle.code_parts.specs.Groups.{functions_of}
 use Rattle.call_link.proofs.Items.{linked-is}
 use Rattle.call_link.proofs.functions.linked_at.Goals as goal

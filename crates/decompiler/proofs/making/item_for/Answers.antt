@@ -3,7 +3,7 @@ use Rattle.std.proofs.lemmas.Result.{IfErr-weaker}
 use Rattle.rv_words.specs.Bytes.{Bytes}
 use Rattle.elf_image.specs.Image.{code_in}
 use Rattle.flow_graph.specs.declared.outside.Outside.{Outside as Fault}
-use Rattle.call_graph.specs.declared.fault.LinkWhy.TheVariants.{Outside}
+use Rattle.code_parts.specs.declared.call_fault.LinkWhy.TheVariants.{Outside}
 use Rattle.decompiler.specs.Faults.{IsFirst}
 use Rattle.decompiler.specs.Names.{StandsFor}
 use Rattle.decompiler.specs.inner.Functions.{IsNoItem, IsRefusedAt}

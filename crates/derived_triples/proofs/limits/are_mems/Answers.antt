@@ -1,4 +1,4 @@
-use Rattle.term_text.specs.Limits.{IsMem}
+use Rattle.group_text.specs.TermLimits.{IsMem}
 use Rattle.term_arena.specs.Arena.{mem_of}
 use Rattle.derived_triples.proofs.LimitLemmas.{not_each}
 use Rattle.derived_triples.proofs.limits.are_mems.Goals as goal

@@ -1,4 +1,4 @@
-use Rattle.term_text.specs.Limits.{IsWord}
+use Rattle.group_text.specs.TermLimits.{IsWord}
 use Rattle.held_terms.specs.Held.{register_of}
 use Rattle.derived_triples.proofs.LimitLemmas.{not_each}
 use Rattle.derived_triples.proofs.limits.are_registers.Goals as goal

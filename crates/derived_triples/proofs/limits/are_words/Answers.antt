@@ -1,4 +1,4 @@
-use Rattle.term_text.specs.Limits.{IsWord}
+use Rattle.group_text.specs.TermLimits.{IsWord}
 use Rattle.term_arena.specs.Arena.{word_of}
 use Rattle.derived_triples.proofs.LimitLemmas.{not_each}
 use Rattle.derived_triples.proofs.limits.are_words.Goals as goal

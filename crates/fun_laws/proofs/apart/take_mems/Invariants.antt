@@ -1,6 +1,6 @@
 use Rattle.std.proofs.Common.{◌≡◌, ◌++◌, map, take}
 use Rattle.word_terms.specs.Tree.{mem_tree}
-use Rattle.term_laws.specs.Laws.{OfMem}
+use Rattle.fun_laws.specs.Laws.{OfMem}
 use Rattle.fun_laws.specs.inner.Apart.{blank_mem}
 use Rattle.fun_laws.specs.inner.Taken.{term_of}
 use Rattle.fun_laws.proofs.apart.take_mems.Given as goal

@@ -1,6 +1,6 @@
 use Rattle.std.proofs.Common.{◌≡◌, ◌++◌, map, take}
 use Rattle.word_terms.specs.Tree.{word_tree}
-use Rattle.term_laws.specs.Laws.{OfWord}
+use Rattle.fun_laws.specs.Laws.{OfWord}
 use Rattle.fun_laws.specs.inner.Apart.{blank_word}
 use Rattle.fun_laws.specs.inner.Taken.{term_of}
 use Rattle.fun_laws.proofs.apart.take_words.Given as goal

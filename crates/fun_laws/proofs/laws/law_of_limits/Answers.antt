@@ -1,5 +1,5 @@
 use Rattle.std.proofs.Common.{subst, List as Items}
-use Rattle.term_laws.specs.declared.step.Rw.{Rw}
+use Rattle.fun_laws.specs.declared.step.Rw.{Rw}
 use Rattle.fun_laws.specs.inner.Numbers.{HaveNumbers}
 use Rattle.fun_laws.proofs.CertFits.{accepted_fits}
 use Rattle.fun_laws.proofs.laws.law_of_limits.Goals as goal

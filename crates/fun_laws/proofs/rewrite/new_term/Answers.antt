@@ -1,5 +1,5 @@
 use Rattle.std.proofs.Common.{sym}
-use Rattle.term_laws.specs.inner.Shapes.{law_of}
+use Rattle.fun_laws.specs.inner.Shapes.{law_of}
 use Rattle.fun_laws.specs.inner.Taken.{term_of}
 use Rattle.fun_laws.proofs.Parts.{got}
 use Rattle.fun_laws.proofs.StepLemmas.{made_term, taken}

@@ -4,7 +4,7 @@ use Rattle.tailrec_lang.specs.declared.group.Def.{Def}
 use Rattle.tailrec_lang.specs.Tree.{def_tree}
 use Rattle.group_text.proofs.Joins.{ok-with}
 use Rattle.group_text.proofs.BodyJoins.{pair-first, pair-second, passed-on}
-use Rattle.term_laws.specs.declared.step.Rw.{Rw}
+use Rattle.fun_laws.specs.declared.step.Rw.{Rw}
 use Rattle.fun_laws.specs.inner.Reading.{behind_old, is_step, result_at, step_at}
 use Rattle.fun_laws.specs.inner.Views.{rest_view}
 use Rattle.fun_laws.proofs.rows.read_behind_old.Goals as goal

@@ -4,7 +4,7 @@ use Rattle.mc_text.specs.inner.Reading.{with_prefix}
 use Rattle.mc_text.proofs.Star.{star-more, star-ends, star-fails}
 use Rattle.group_text.specs.inner.Rows.{RowPositions, tokens}
 use Rattle.group_text.proofs.Joins.{AllSo, so-begun, so-more, so-err, so-ok}
-use Rattle.term_laws.specs.declared.step.Rw.{Rw}
+use Rattle.fun_laws.specs.declared.step.Rw.{Rw}
 use Rattle.fun_laws.specs.inner.Reading.{is_step, step_at}
 use Rattle.fun_laws.proofs.CertLaws.{step-shrinks}
 use Rattle.fun_laws.proofs.RowLaws.{step-row}

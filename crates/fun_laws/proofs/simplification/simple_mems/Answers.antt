@@ -1,6 +1,6 @@
 use Rattle.word_terms.specs.Tree.{mem_tree}
-use Rattle.term_laws.specs.Laws.{OfMem}
-use Rattle.term_laws.specs.Simple.{IsSimple}
+use Rattle.fun_laws.specs.Laws.{OfMem}
+use Rattle.fun_laws.specs.Simple.{IsSimple}
 use Rattle.fun_laws.specs.inner.Simplified.{mem_parts}
 use Rattle.fun_laws.proofs.PartSteps.{mem_item}
 use Rattle.fun_laws.proofs.SimpleBodies.{items_more}

@@ -1,5 +1,5 @@
 use Rattle.tailrec_lang.specs.Tree.{step_tree}
-use Rattle.term_laws.specs.Simple.{IsSimple}
+use Rattle.fun_laws.specs.Simple.{IsSimple}
 use Rattle.fun_laws.specs.Rewriting.{step_term}
 use Rattle.fun_laws.specs.inner.Simplified.{step_parts}
 use Rattle.fun_laws.proofs.PartSteps.{step_item}

@@ -1,6 +1,6 @@
 use Rattle.word_terms.specs.Tree.{word_tree}
-use Rattle.term_laws.specs.Laws.{OfWord}
-use Rattle.term_laws.specs.Simple.{IsSimple}
+use Rattle.fun_laws.specs.Laws.{OfWord}
+use Rattle.fun_laws.specs.Simple.{IsSimple}
 use Rattle.fun_laws.specs.inner.Simplified.{word_parts}
 use Rattle.fun_laws.proofs.PartSteps.{word_item}
 use Rattle.fun_laws.proofs.SimpleBodies.{items_more}

@@ -2,7 +2,7 @@ use Rattle.std.proofs.Common.{◌≡◌, ◌+◌, ◌<◌, ◌++◌, List, drop,
 use Rattle.std.proofs.lemmas.Bool.Decides.{nat_tests}
 use Rattle.tailrec_lang.specs.declared.group.Def.{Def}
 use Rattle.tailrec_lang.specs.Tree.{def_tree, group_tree}
-use Rattle.term_laws.specs.declared.log.Log.{Log}
+use Rattle.fun_laws.specs.declared.log.Log.{Log}
 use Rattle.fun_laws.specs.Rewriting.{AreRewritingSteps}
 use Rattle.fun_laws.specs.inner.Simplified.{AreSimpleDefs, IsSimplifiedDef}
 use Rattle.fun_laws.proofs.SimpleBodies.{defs_ended, defs_more, defs_simple, defs_simple_more, one-longer}

@@ -1,6 +1,6 @@
 use Rattle.mc_text.specs.Printing.{page}
 use Rattle.mc_text.proofs.Printed.{keeps_more, print_next, print_over_map}
-use Rattle.term_text.specs.Spelling.{mem_tokens}
+use Rattle.group_text.specs.TermSpelling.{mem_tokens}
 use Rattle.word_terms.specs.Tree.{mem_tree}
 use Rattle.group_text.proofs.put.put_mems.Goals as goal
 

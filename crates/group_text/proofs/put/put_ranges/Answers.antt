@@ -1,6 +1,6 @@
 use Rattle.mc_text.specs.Printing.{page}
 use Rattle.mc_text.proofs.Printed.{keeps_more, print_next, print_over}
-use Rattle.term_text.specs.Spelling.{range_tokens}
+use Rattle.group_text.specs.TermSpelling.{range_tokens}
 use Rattle.group_text.proofs.put.put_ranges.Goals as goal
 
 pub loop-range-preserved : goal.loop-range-preserved

@@ -1,6 +1,6 @@
 use Rattle.std.proofs.Common.{◌≡◌, drop, flat_map}
 use Rattle.mc_text.specs.Printing.{Keeps, page, print}
-use Rattle.term_text.specs.Spelling.{range_tokens}
+use Rattle.group_text.specs.TermSpelling.{range_tokens}
 use Rattle.group_text.proofs.put.put_ranges.Given as goal
 
 abbrev pub invariant-loop-range : goal.invariant-loop-range

@@ -1,6 +1,6 @@
 use Rattle.std.proofs.Common.{◌≡◌, drop, flat_map}
 use Rattle.mc_text.specs.Printing.{Keeps, page, print}
-use Rattle.term_text.specs.Spelling.{word_tokens}
+use Rattle.group_text.specs.TermSpelling.{word_tokens}
 use Rattle.word_terms.specs.Tree.{word_tree}
 use Rattle.group_text.proofs.put.put_words.Given as goal
 

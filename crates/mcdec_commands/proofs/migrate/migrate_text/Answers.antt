@@ -10,8 +10,7 @@ use Rattle.mcdec_commands.specs.EvalAnswer.{proof_limit}
 use Rattle.mcdec_commands.specs.MigrateAnswer.{IsMigrationFor}
 use Rattle.mcdec_commands.specs.inner.Migrating.{FileMigrates}
 use Rattle.mcdec_commands.specs.inner.Writing.{WritesOut}
-use Rattle.mcdec_commands.proofs.Leaving.{IsThis}
-use Rattle.mcdec_commands.proofs.Leaving.{nothing-written, text-by}
+use Rattle.mcdec_commands.proofs.Leaving.{IsThis, nothing-written, text-by}
 use Rattle.mcdec_commands.proofs.Loading.{unread, unread-so}
 use Rattle.mcdec_commands.proofs.Migrating.{both-held, migration-for, refused-gives}
 use Rattle.mcdec_commands.proofs.migrate.migrate_text.Goals as goal

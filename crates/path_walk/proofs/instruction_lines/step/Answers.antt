@@ -1,5 +1,5 @@
 use Rattle.std.proofs.Common.{ap, sym, subst, ◌∙◌, arith}
-use Rattle.term_text.specs.Limits.{IsWord}
+use Rattle.group_text.specs.TermLimits.{IsWord}
 use Rattle.instr_axioms.specs.Terms.{pc_after}
 use Rattle.code_parts.specs.Bodies.{VariableMap, names, place_after}
 use Rattle.code_parts.specs.Kept.{flow_in}

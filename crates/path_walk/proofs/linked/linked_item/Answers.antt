@@ -6,7 +6,7 @@ use Rattle.tailrec_lang.specs.Tree.{DefTree, GroupTree, def_tree}
 use Rattle.group_text.specs.declared.version.Version.TheVariants.{Three}
 use Rattle.proof_text.specs.Line.{LineTree, line_tree}
 use Rattle.verdicts.specs.Instance.{after_lines}
-use Rattle.call_graph.specs.Functions.{size_of}
+use Rattle.code_parts.specs.Functions.{size_of}
 use Rattle.code_parts.specs.declared.linked.LinkedFunction.{LinkedFunction}
 use Rattle.path_walk.specs.Closed.{AreClosedIn}
 use Rattle.path_walk.specs.inner.LinkedWalks.{AreWalkedOf}

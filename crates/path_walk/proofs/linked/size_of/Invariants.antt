@@ -1,6 +1,6 @@
 use Rattle.std.proofs.Common.{◌≡◌, map, take}
 use Rattle.std.specs.List.{sum_by}
-use Rattle.call_graph.specs.Functions.{size_of}
+use Rattle.code_parts.specs.Functions.{size_of}
 use Rattle.path_walk.proofs.linked.size_of.Given as goal
 
 abbrev pub invariant-loop-function : goal.invariant-loop-function

@@ -1,6 +1,6 @@
 use Rattle.std.proofs.Common.{◌≡◌, ℕ, List, get_or, refl, sym, ap, ◌∙◌}
 use Rattle.std.specs.Str.{bytes_eq}
-use Rattle.term_text.proofs.NameTests.{named-next}
+use Rattle.group_text.proofs.NameTests.{named-next}
 use Rattle.proof_text.specs.declared.line_heads.RuleHead.TheVariants.{Axiom}
 use Rattle.proof_text.specs.inner.LineReading.{rule_heads, rule_name}
 use Rattle.proof_text.proofs.line_heads.rule_head_of.Goals as goal

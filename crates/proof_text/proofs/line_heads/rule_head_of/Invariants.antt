@@ -1,5 +1,5 @@
 use Rattle.std.proofs.Common.{◌≡◌, drop}
-use Rattle.term_text.specs.Reading.{named}
+use Rattle.group_text.specs.TermReading.{named}
 use Rattle.proof_text.specs.inner.LineReading.{rule_heads, rule_name}
 use Rattle.proof_text.proofs.line_heads.rule_head_of.Given as goal
 

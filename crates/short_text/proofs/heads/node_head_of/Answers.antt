@@ -1,7 +1,7 @@
 use Rattle.std.proofs.Common.{◌≡◌, ℕ, List, get_or, refl, sym, ap, ◌∙◌}
 use Rattle.std.specs.Str.{bytes_eq}
 use Rattle.std.proofs.lemmas.Slice.Eq.{bytes_eq-Decides}
-use Rattle.term_text.proofs.NameTests.{named-next}
+use Rattle.group_text.proofs.NameTests.{named-next}
 use Rattle.rv_words.specs.declared.operation.Op.TheVariants.{Add}
 use Rattle.short_text.specs.declared.heads.NodeHead.{NodeHead}
 use Rattle.short_text.specs.declared.heads.NodeHead.TheVariants.{Bin}

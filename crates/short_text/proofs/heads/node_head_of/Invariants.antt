@@ -1,5 +1,5 @@
 use Rattle.std.proofs.Common.{◌≡◌, drop}
-use Rattle.term_text.specs.Reading.{named}
+use Rattle.group_text.specs.TermReading.{named}
 use Rattle.short_text.specs.inner.ShortReading.{node_heads, node_head_name}
 use Rattle.short_text.proofs.heads.node_head_of.Given as goal
 

@@ -1,6 +1,6 @@
 use Rattle.std.proofs.Common.{◌≡◌, ℕ, List, get_or, refl, sym, ap, ◌∙◌}
 use Rattle.std.specs.Str.{bytes_eq}
-use Rattle.term_text.proofs.NameTests.{named-next}
+use Rattle.group_text.proofs.NameTests.{named-next}
 use Rattle.short_text.specs.declared.heads.ShortHead.TheVariants.{Axiom}
 use Rattle.short_text.specs.inner.ShortReading.{short_heads, short_name}
 use Rattle.short_text.proofs.heads.short_head_of.Goals as goal

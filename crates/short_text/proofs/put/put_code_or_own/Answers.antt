@@ -2,7 +2,7 @@ use Rattle.std.proofs.Common.{◌≡◌, ◌∷◌, [], Bool, List, if◌then◌
 use Rattle.std.specs.Prelude.{OnOk, codes}
 use Rattle.mc_text.specs.Printing.{page, print}
 use Rattle.mc_text.specs.Tokens.{Atom, Tok}
-use Rattle.term_text.specs.Spelling.{range_tokens}
+use Rattle.group_text.specs.TermSpelling.{range_tokens}
 use Rattle.proof_text.specs.Line.{code_or_own}
 use Rattle.proof_text.specs.LineSpelling.{code_tokens}
 use Rattle.proof_text.proofs.SameRanges.{ranges-same}

@@ -1,6 +1,6 @@
 use Rattle.std.proofs.lemmas.Result.{IfErr-weaker}
 use Rattle.elf_image.specs.Image.{code_in}
-use Rattle.call_graph.specs.Causes.{IsCallGraphFault}
+use Rattle.code_parts.specs.Causes.{IsCallGraphFault}
 use Rattle.decompiler.specs.inner.Functions.{IsRefusedAt}
 use Rattle.call_link.specs.Listing.{linked_form}
 use Rattle.call_link.proofs.Items.{refused-linked}

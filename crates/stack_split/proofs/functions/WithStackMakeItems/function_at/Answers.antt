@@ -1,6 +1,6 @@
 use Rattle.std.proofs.Common.{sym, subst}
 use Rattle.elf_image.specs.Image.{code_in}
-use Rattle.call_graph.specs.declared.fault.CallGraphFault.{CallGraphFault}
+use Rattle.code_parts.specs.declared.call_fault.CallGraphFault.{CallGraphFault}
 use Rattle.decompiler.specs.inner.Functions.{IsRefusedAt}
 use Rattle.decompiler.proofs.Fragment.{refused-alone}
 use Rattle.stack_split.specs.Listing.{split_form}

@@ -1,6 +1,0 @@
-use Rattle.call_graph.proofs.OneAnswer.{no_cause}
-use Rattle.call_graph.proofs.OneCause.{one_cause}
-use Rattle.call_graph.proofs.laws.law_of_one_answer.Goals as goal
-
-pub returns : goal.returns
-returns c = record { one_cause = one_cause; functions_or_cause = no_cause }

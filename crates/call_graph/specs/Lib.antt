@@ -1,4 +1,0 @@
-pub mod Calls
-pub mod Causes
-pub mod Functions
-pub mod inner

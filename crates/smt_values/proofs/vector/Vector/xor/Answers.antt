@@ -1,6 +1,0 @@
-use Rattle.std.proofs.Common.{◌∙◌}
-use Rattle.smt_values.proofs.Vectors.{low_xor}
-use Rattle.smt_values.proofs.vector.Vector.xor.Goals as goal
-
-pub returns-clause-number : goal.returns-clause-number
-returns-clause-number c = c.new.ensures.number ∙ low_xor _ _ _ _ c.requires c.args.self.below c.args.b.below

@@ -1,9 +1,0 @@
-pub mod WordLaws
-pub mod LawLemmas
-pub mod Fronts
-pub mod Given
-pub mod Places
-pub mod Weights
-pub mod OneTerm
-pub mod SimpleLemmas
-pub mod Noted

@@ -1,5 +1,0 @@
-pub mod Laws
-pub mod Places
-pub mod Values
-pub mod Simple
-pub mod inner

@@ -1,3 +1,0 @@
-pub mod Spelling
-pub mod Limits
-pub mod Reading
