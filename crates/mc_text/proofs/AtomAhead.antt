@@ -60,6 +60,10 @@ stands-atom m bytes behind a rest parts is some fits whole = record {
   may = ((some, fits), whole);
 }
 
+some-bytes : (a : List ℕ) → a ≢ [] → length a ≡ 0 → ⊥
+some-bytes [] some e = some refl
+some-bytes (b ∷ a) some e = omega (arith, e)
+
 -- ---- at a scanner's place
 
 module _ (m : Before) (bytes : List ℕ) (line : ℕ) (p : Position) (e : record { before = m; rest = bytes; line = line } ≡ p) where
@@ -78,6 +82,9 @@ module _ (m : Before) (bytes : List ℕ) (line : ℕ) (p : Position) (e : record
         before = refl;
         line = omega arith;
       })
+
+  pub spelled-passed : (behind a rest : List ℕ) → bytes ≡ gap m (Atom []) ++ behind → a ++ rest ≡ behind → IsAtom a → HasNoAtomByte rest → Passes (Atom a) p (record { before = Later; rest = rest; line = line })
+  spelled-passed behind a rest parts is atom whole = atom-passed behind a rest parts is (some-bytes a atom.0) atom.1 whole
 
 -- ---- its bytes
 

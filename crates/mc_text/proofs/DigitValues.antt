@@ -82,7 +82,7 @@ both-true true false e = absurd cc
 both-true false b e = absurd cc
 
 -- a digit is what its value is written with
-parted : (base c : ℕ) → is_digit_of base c ≡ true → (digit_value c < base) × (digit_glyph false (digit_value c) ≡ c)
+pub parted : (base c : ℕ) → is_digit_of base c ≡ true → (digit_value c < base) × (digit_glyph false (digit_value c) ≡ c)
 parted base c e = let h = both-true (ltb (digit_value c) base) (eqb (digit_glyph false (digit_value c)) c) e in (ltb-true _ _ h.0, eqb-true _ _ h.1)
 
 le_value_after : (n : ℕ) (ds : List ℕ) → n ≤ digits_value_after 16 n ds

@@ -161,6 +161,9 @@ pub fn number<'a>(scan: &mut Scan<'a>, limit: u64) -> Result<u64, TokenError>
     ensures small { IfOk result (λ n. n < limit) }
     ensures last { last_line scan.new ≡ last_line scan.old }
 {
+    if let Some((n, ahead)) = scan.number_ahead() {
+        return accept(scan, ahead, below(limit, Some(n)));
+    }
     match scan.atom_ahead() {
         Some((atom, ahead)) => accept(scan, ahead, below(limit, dec(atom))),
         None => Err(TokenError::Bad),
@@ -168,6 +171,7 @@ pub fn number<'a>(scan: &mut Scan<'a>, limit: u64) -> Result<u64, TokenError>
 }
 
 /// The number where it is below the limit.
+#[inline(always)]
 fn below(limit: u64, number: Option<u64>) -> Option<u64>
     ensures below { result ≡ below limit number }
     ensures small { IfSome result (λ n. n < limit) }

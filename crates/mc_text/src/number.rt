@@ -1,6 +1,8 @@
 //! Numbers that an atom spells.
 
-ghost use Rattle.std.specs.Prelude.{◌≡◌, MatchOption, true, false, take, drop, codes};
+ghost use Rattle.std.specs.Prelude.{◌≡◌, ◌≤◌, ◌<◌, ◌^◌, MatchOption, true, false, length, take, drop, codes};
+ghost use Rattle.std.specs.List.{AllPass};
+ghost use Rattle.std.specs.Str.Parse.{digits_value};
 ghost use Rattle.std.specs.Char.{digit_value};
 ghost use Rattle.std.specs.Str.{bytes_eq};
 ghost use Rattle.std.specs.Fmt.{decimal};
@@ -65,7 +67,8 @@ fn number_of(base: Base, digits: &[u8]) -> Option<u64>
 }
 
 /// Whether a zero stands in front of another digit.
-fn is_padded(digits: &[u8]) -> bool
+#[inline(always)]
+pub(crate) fn is_padded(digits: &[u8]) -> bool
     ensures { result ≡ is_padded digits.now }
 {
     digits.len() > 1 && digits[0] == b'0'
@@ -83,7 +86,27 @@ fn value_of(base: Base, digits: &[u8]) -> Option<u64>
     Some(value)
 }
 
+/// How many of the bytes at the beginning are decimal digits, and the number that they write, also
+/// with zeros in front. From 400,000,000 on no further digit is looked at.
+#[inline(always)]
+pub(crate) fn small_digits(bytes: &[u8]) -> (usize, u64)
+    ensures within { result.0 ≤ length bytes.now }
+    ensures digits { AllPass (is_digit_of 10) (take result.0 bytes.now) }
+    ensures value { result.1 ≡ digits_value 10 (take result.0 bytes.now) }
+    ensures small { result.1 < 2 ^ 32 }
+{
+    let mut value: u64 = 0;
+    'digits: for (i, byte) in bytes.iter().enumerate() {
+        match digit_of(Base::Decimal, *byte) {
+            Some(digit) if value < 400_000_000 => value = value * 10 + digit,
+            _ => return (i, value),
+        }
+    }
+    (bytes.len(), value)
+}
+
 /// The value of a digit of that base, of which letters are in lower case.
+#[inline(always)]
 fn digit_of(base: Base, byte: u8) -> Option<u64>
     ensures { MatchOption result (is_digit_of (base_number base) byte ≡ false)
         (λ digit. (is_digit_of (base_number base) byte ≡ true) × (digit ≡ digit_value byte)) }

@@ -1,14 +1,17 @@
 //! The tokens of a text, one by one.
 
-ghost use Rattle.std.specs.Prelude.{◌≡◌, ◌∷◌, ◌≤◌, ◌<◌, ℕ, List, length, slice_index, IfOk, IfErr, OnErr, IfSome, IfNone, ◌++◌, [], true, false, IsTrue, ◌↔◌};
+ghost use Rattle.std.specs.Prelude.{◌≡◌, ◌∷◌, ◌≤◌, ◌<◌, ◌^◌, ℕ, List, length, slice_index, IfOk, IfErr, OnErr, IfSome, IfNone, Some as Just, ◌++◌, [], true, false, IsTrue, ◌↔◌};
 ghost use Rattle.std.specs.List.{AllPass};
+ghost use Rattle.std.specs.Fmt.{decimal};
 ghost use Rattle.mc_text.specs.Tokens.{is_atom_byte, IsAtom, Tok, Left, Right, Atom, before_next, Done, tok, gap, token_bytes, token_text, eol, HasNoAtomByte, Position, Passes, Stands};
 ghost use Rattle.mc_text.specs.Scanning.{lex, At, Within, or_stuck, loose, class_of, tokens_at, Scanned};
 ghost use Rattle.mc_text.specs.Reading.{begins_atom, goes_on, is_open};
+ghost use Rattle.mc_text.specs.Number.{number_of};
 ghost use Rattle.mc_text.specs.Outcome.{last_line};
 ghost use Rattle.mc_text.specs.inner.Scanning.{state_of, Found, IsWhole, IsSettled, IsInside, space_text};
 ghost use Rattle.mc_text.specs.declared.token.Before.TheVariants.{Start, Later};
 
+use crate::number::{is_padded, small_digits};
 use crate::token::{BadText, Before, Class, Token};
 use std::marker::Model;
 
@@ -140,6 +143,49 @@ impl<'a> Scan<'a> {
                 Some((atom, ahead))
             }
         }
+    }
+
+    /// The decimal number below 2^32 that stands here, and a scanner after it. Where it says that
+    /// there is none, one may stand here all the same.
+    #[inline(always)]
+    pub(crate) fn number_ahead(&self) -> Option<(u64, Scan<'a>)>
+        ensures passes { IfSome result (λ q. Passes (Atom (decimal q.0)) self.now q.1) }
+        ensures number { IfSome result (λ q. number_of 10 (decimal q.0) ≡ Just q.0) }
+        ensures ahead { IfSome result (λ q.
+            tokens_at self.now ≡ Atom (decimal q.0) ∷ tokens_at q.1) }
+        ensures small { IfSome result (λ q. q.0 < 2 ^ 32) }
+        ensures last { IfSome result (λ q. last_line q.1 ≡ last_line self.now) }
+    {
+        let bytes = behind_gap(self.rest, self.before)?;
+        let (number, rest) = digits_at(bytes)?;
+        let ahead = Scan {
+            rest,
+            before: Before::Later,
+            line: self.line,
+        };
+        Some((number, ahead))
+    }
+
+    /// The decimal number below 2^32 behind a letter that stands here, and a scanner after it.
+    /// Where it says that there is none, one may stand here all the same.
+    #[inline(always)]
+    pub fn numbered_ahead(&self, letter: u8) -> Option<(u64, Scan<'a>)>
+        requires { is_atom_byte letter ≡ true }
+        ensures passes { IfSome result (λ q. Passes (Atom (letter ∷ decimal q.0)) self.now q.1) }
+        ensures number { IfSome result (λ q. number_of 10 (decimal q.0) ≡ Just q.0) }
+        ensures ahead { IfSome result (λ q.
+            tokens_at self.now ≡ Atom (letter ∷ decimal q.0) ∷ tokens_at q.1) }
+        ensures small { IfSome result (λ q. q.0 < 2 ^ 32) }
+        ensures last { IfSome result (λ q. last_line q.1 ≡ last_line self.now) }
+    {
+        let bytes = behind_gap(self.rest, self.before)?;
+        let (number, rest) = numbered_at(bytes, letter)?;
+        let ahead = Scan {
+            rest,
+            before: Before::Later,
+            line: self.line,
+        };
+        Some((number, ahead))
     }
 
     /// Another scanner at the same place.
@@ -334,6 +380,46 @@ fn atom_len(bytes: &[u8]) -> usize
         }
     }
     bytes.len()
+}
+
+/// The decimal number below 2^32 at the beginning, and the bytes after it, if no atom goes on
+/// there. It may leave out a large one.
+#[inline(always)]
+fn digits_at(bytes: &[u8]) -> Option<(u64, &[u8])>
+    ensures parts { IfSome result (λ p. decimal p.0 ++ p.1.now ≡ bytes.now) }
+    ensures small { IfSome result (λ p. p.0 < 2 ^ 32) }
+    ensures whole { IfSome result (λ p. HasNoAtomByte p.1.now) }
+{
+    let (count, number) = small_digits(bytes);
+    let (digits, rest) = bytes.split_at(count);
+    if digits.is_empty() || is_padded(digits) || begins_atom(rest) {
+        return None;
+    }
+    Some((number, rest))
+}
+
+/// A letter and the decimal number below 2^32 behind it, likewise.
+#[inline(always)]
+fn numbered_at(bytes: &[u8], letter: u8) -> Option<(u64, &[u8])>
+    ensures parts { IfSome result (λ p. (letter ∷ decimal p.0) ++ p.1.now ≡ bytes.now) }
+    ensures small { IfSome result (λ p. p.0 < 2 ^ 32) }
+    ensures whole { IfSome result (λ p. HasNoAtomByte p.1.now) }
+{
+    match bytes {
+        [first, digits @ ..] if *first == letter => digits_at(digits),
+        _ => None,
+    }
+}
+
+/// Whether the first byte is part of an atom.
+#[inline(always)]
+fn begins_atom(bytes: &[u8]) -> bool
+    ensures { result ≡ false → HasNoAtomByte bytes.now }
+{
+    match bytes {
+        [first, ..] => is_atom_byte(*first),
+        _ => false,
+    }
 }
 
 /// Whether the bytes are those of an atom.
