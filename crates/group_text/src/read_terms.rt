@@ -1,8 +1,11 @@
 //! Reading terms and ranges of bytes.
 
-ghost use Rattle.std.specs.Prelude.{◌≡◌, ◌^◌, option_map};
+ghost use Rattle.std.specs.Prelude.{◌≡◌, ◌^◌, ◌∷◌, IfSome, Some as Just, option_map};
+ghost use Rattle.std.specs.Fmt.{decimal};
+ghost use Rattle.mc_text.specs.Tokens.{Atom};
+ghost use Rattle.mc_text.specs.Scanning.{tokens_at};
 ghost use Rattle.mc_text.specs.Reading.{one, atom_of, below};
-ghost use Rattle.word_terms.specs.Tree.{word_tree, mem_tree, cond_tree};
+ghost use Rattle.word_terms.specs.Tree.{word_tree, mem_tree, cond_tree, Var};
 ghost use Rattle.mc_text.specs.Outcome.{Gives, last_line};
 ghost use Rattle.mc_text.specs.Item.{ReadsItem};
 ghost use Rattle.group_text.specs.TermLimits.{FitsCond, FitsMem, FitsWord, IsRange};
@@ -47,6 +50,22 @@ fn word_leaf_of(atom: &[u8]) -> Option<Word>
             Some(n) => Some(Word::Const(n)),
             None => None,
         },
+    }
+}
+
+/// The variable for a word that stands here, and a scanner after it. Where it says that there is
+/// none, one may stand here all the same.
+#[inline(always)]
+#[tactic(auto, unfolding(crate::specs::TermReading::word_leaf_of))]
+fn variable_ahead<'a>(scan: &Scan<'a>) -> Option<(u32, Scan<'a>)>
+    ensures ahead { IfSome result (λ q.
+        tokens_at scan.now ≡ Atom (118 ∷ decimal q.0) ∷ tokens_at q.1) }
+    ensures leaf { IfSome result (λ q. word_leaf_of (118 ∷ decimal q.0) ≡ Just (Var q.0)) }
+    ensures last { IfSome result (λ q. last_line q.1 ≡ last_line scan.now) }
+{
+    match scan.numbered_ahead(b'v') {
+        Some((i, ahead)) => Some((i as u32, ahead)),
+        None => None,
     }
 }
 
@@ -106,6 +125,9 @@ fn word_within<'a>(alloc: Global, scan: &mut Scan<'a>, room: u32) -> Result<Word
 {
     if room == 0 {
         return Err(TokenError::Bad);
+    }
+    if let Some((i, ahead)) = variable_ahead(scan) {
+        return accept(scan, ahead, Some(Word::Var(i)));
     }
     if let Some((atom, ahead)) = scan.atom_ahead() {
         return accept(scan, ahead, word_leaf_of(atom));
