@@ -39,7 +39,7 @@ impl<'a> Pen<'a> {
         ensures kept { Keeps (page self.old) (page self.new) }
     {
         self.space()?;
-        put_atom(self.out, b"(")?;
+        self.out.push(b'(')?;
         self.before = Before::Open;
         Ok(())
     }
@@ -49,7 +49,7 @@ impl<'a> Pen<'a> {
         ensures ok { OnOk result (page self.new ≡ put Right (page self.old)) }
         ensures kept { Keeps (page self.old) (page self.new) }
     {
-        put_atom(self.out, b")")?;
+        self.out.push(b')')?;
         self.before = Before::Later;
         Ok(())
     }
@@ -60,7 +60,7 @@ impl<'a> Pen<'a> {
         ensures kept { Keeps (page self.old) (page self.new) }
     {
         self.space()?;
-        put_atom(self.out, b";")
+        self.out.push(b';')
     }
 
     /// Writes `(` and the name after it.
@@ -77,7 +77,7 @@ impl<'a> Pen<'a> {
         ensures ok { OnOk result (page self.new ≡ put Eol (page self.old)) }
         ensures kept { Keeps (page self.old) (page self.new) }
     {
-        put_atom(self.out, b"\n")?;
+        self.out.push(b'\n')?;
         self.before = Before::Start;
         Ok(())
     }
@@ -125,7 +125,7 @@ impl<'a> Pen<'a> {
         ensures kept { Keeps (page self.old) (page self.new) }
     {
         self.space()?;
-        put_atom(self.out, &[letter])?;
+        self.out.push(letter)?;
         put_dec(self.out, u64::from(n))
     }
 
@@ -141,7 +141,7 @@ impl<'a> Pen<'a> {
         ensures kept { Keeps (page self.old) (page self.new) }
     {
         if matches!(self.before, Before::Later) {
-            put_atom(self.out, b" ")?;
+            self.out.push(b' ')?;
         }
         self.before = Before::Later;
         Ok(())
