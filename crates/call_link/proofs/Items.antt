@@ -10,6 +10,7 @@ use Rattle.group_text.specs.Version.{version_3}
 use Rattle.proof_text.specs.Line.{LineTree, line_tree}
 use Rattle.frame_compose.specs.Rules.{IsSteered}
 use Rattle.verdicts.specs.Accepts.{IsAcceptedBy}
+use Rattle.verdicts.proofs.WholeLemmas.{accepted-by}
 use Rattle.claims.specs.Turns.{InFirstMemory, RunsBack}
 use Rattle.decompiler.proofs.Counts.{Returning, counts-of, exact-of}
 use Rattle.decompiler.proofs.Members.{members-gain}
@@ -64,11 +65,8 @@ module _ (file name : List ℕ) (e : ℕ) (bytes : AreBytes (code_of_file file))
   pub accepted-linked : (lines : List LineTree) → AreClosedIn Three (group_in s name) lines → IsAcceptedBy IsSteered file (record { group = group_in s name; lines = lines })
   accepted-linked lines closed =
       let some = defs-some (code_of_file file) e bytes s are is name in
-      record {
-        well_formed = formed (code_of_file file) e bytes s are is name;
-        lines = closed.right;
-        proved = record { closed = closed.closed (length (defs_of (members_of s)) - 1) (omega (arith, some)); code = within-code (code_of_file file) e bytes s are is };
-      }
+      accepted-by IsSteered file (record { group = group_in s name; lines = lines }) (formed (code_of_file file) e bytes s are is name) closed.right
+      (closed.closed (length (defs_of (members_of s)) - 1) (omega (arith, some))) (within-code (code_of_file file) e bytes s are is)
 
   pub gains-linked : Returning (RunsBack InFirstMemory) file (group_in s name)
   gains-linked =

@@ -6,6 +6,5 @@ pub mod LargerTables
 pub mod OneLine
 pub mod TableDepths
 pub mod StandingLemmas
-pub mod OneVerdict
 pub mod ShortVerdicts
 pub mod TreesLemmas

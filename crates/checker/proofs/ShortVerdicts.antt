@@ -12,7 +12,6 @@ use Rattle.group_text.specs.Version.{version_2, version_of}
 use Rattle.proof_text.specs.FirstProofs.{HasGiven, HasGivenOver, Progress}
 use Rattle.proof_text.specs.Line.{LineTree, ProofTree}
 use Rattle.proof_text.specs.Proofs.{AreProofs, groups_of}
-use Rattle.proof_text.proofs.ProofTexts.{proofs-once}
 use Rattle.term_arena.specs.declared.node.Node.{Node}
 use Rattle.short_text.specs.declared.short.Short.{Short}
 use Rattle.short_text.specs.declared.short.ShortLine.{ShortLine}
@@ -22,15 +21,16 @@ use Rattle.short_text.proofs.LineParts.{apart, table-kept}
 use Rattle.short_text.proofs.ReadLaws.{shorts_known}
 use Rattle.verdicts.specs.declared.verdict.Verdict.{Verdict}
 use Rattle.verdicts.specs.declared.verdict.Verdict.TheVariants as verdict
-use Rattle.verdicts.specs.Instance.{History, after_line, no_lines}
+use Rattle.verdicts.specs.Instance.{History, after_line, no_lines, no_rule}
 use Rattle.claims.specs.Headline.{Headline}
-use Rattle.verdicts.specs.LineRules.{AllLeave, IsProvedOver, IsTextOver, SaysOver}
-use Rattle.verdicts.specs.Verdicts.{IsAcceptance}
+use Rattle.verdicts.specs.LineRules.{AllLeave, IsProvedOver}
+use Rattle.verdicts.specs.Verdicts.{IsAcceptance, IsTextOver, SaysOver}
+use Rattle.verdicts.proofs.OneVerdict.{accepted-proofs, verdict-comes}
 use Rattle.verdicts.proofs.SoundLemmas.{accepted-right}
+use Rattle.verdicts.proofs.WholeLemmas.{accepted-by}
 use Rattle.checker.specs.Short.{LeaveAfter, LeavesBehind}
 use Rattle.checker.specs.ShortRules.{AreFullAccepted, IsFullProof, LeavesOver, short_rules}
 use Rattle.checker.proofs.OneLine.{one_line}
-use Rattle.checker.proofs.OneVerdict.{verdict_comes}
 use Rattle.checker.proofs.StatingLemmas.{full_lines}
 
 -- ---- lines of version 1
@@ -83,11 +83,7 @@ full_accepted file (p ∷ ps) fit all =
       stand = (record { group = refl; lines = lines.stand }, rest.stand);
       fit = (record { group = group-so p.group fit.0.group; lines = lines.fit }, rest.fit);
       accepted = (
-        record {
-          well_formed = right.well_formed;
-          lines = lines.right;
-          proved = record { closed = ap (λ (h : History). h.closed (listed_def p.group)) (sym lines.left) ∙ all.0.2.closed; code = all.0.2.code };
-        },
+        accepted-by no_rule file (record { group = p.group; lines = lines.full }) right.well_formed lines.right (ap (λ (h : History). h.closed (listed_def p.group)) (sym lines.left) ∙ all.0.2.closed) all.0.2.code,
         rest.accepted,
       );
     }
@@ -112,15 +108,9 @@ short_right file ps fit readable all =
 
 -- a verdict of acceptance says that the functions are right
 pub short_headline : (file text : List ℕ) (v : Verdict) → SaysOver short_rules version_2 file text v → IsAcceptance v → (ps : List ShortProof) → IsTextOver short_lines version_2 text ps → Headline file (groups_of ps)
-short_headline file text (verdict.Accepted functions lines) h is ps t =
-    let same : h.proofs ≡ ps = proofs-once shorts_known h.proofs ps h.spelled.fit t.fit (sym h.spelled.spelled ∙ t.spelled) in
-    short_right file ps t.fit h.readable (subst (AllByRecursion (IsProvedOver short_rules file)) same h.proved)
-short_headline file text (verdict.BadElf why) h is ps t = absurd is
-short_headline file text (verdict.BadText n) h is ps t = absurd is
-short_headline file text (verdict.BadDef g d) h is ps t = absurd is
-short_headline file text (verdict.BadLine n) h is ps t = absurd is
-short_headline file text (verdict.NotProved g) h is ps t = absurd is
-short_headline file text verdict.NoMemory h is ps t = absurd is
+short_headline file text v h is ps t =
+    let accepted = accepted-proofs shorts_known short_rules file text v h is ps t in
+    short_right file ps t.fit accepted.readable accepted.each
 
 -- what a line leaves is one history
 one-history : (g : GroupTree) (before : List ShortLine) (h : History) (l : ShortLine) (a b : History) → LeavesOver g before h l a → LeavesOver g before h l b → a ≡ b
@@ -129,7 +119,7 @@ one-history g before h (Proof s) a b x y = x.2 ∙ ap (λ (l : LineTree). after_
 
 -- a verdict that says what is so comes, but for lack of memory
 pub short_comes : (file text : List ℕ) (w : Verdict) → SaysOver short_rules version_2 file text w → (v : Verdict) → SaysOver short_rules version_2 file text v → (w ≡ v) ⊎ (v ≡ verdict.NoMemory) ⊎ (w ≡ verdict.NoMemory)
-short_comes = verdict_comes shorts_known short_rules one-history
+short_comes = verdict-comes shorts_known short_rules one-history
 
 -- ---- a text of that version
 

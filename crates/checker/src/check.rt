@@ -8,6 +8,7 @@ ghost use Rattle.mc_shelf.specs.inner.OnlyReads.{OnlyReads};
 ghost use Rattle.group_text.specs.Version.{version_of};
 ghost use Rattle.proof_text.specs.FirstProofs.{HasGiven};
 ghost use Rattle.proof_text.specs.Line.{ProofTree};
+ghost use Rattle.proof_text.specs.LineGrammar.{whole_lines};
 ghost use Rattle.proof_text.specs.Proofs.{groups_of};
 ghost use Rattle.proof_text.specs.Pulling.{held_text, left_of, progress_in};
 ghost use Rattle.proof_text.specs.inner.PulledRows.{IfFile};
@@ -15,7 +16,7 @@ ghost use Rattle.verdicts.specs.declared.verdict.Verdict.{Verdict as VerdictOf};
 ghost use Rattle.claims.specs.Headline.{Headline};
 ghost use Rattle.verdicts.specs.Further.{further_of};
 ghost use Rattle.verdicts.specs.Pulled.{IfVerdict, as_verdict, is_outside};
-ghost use Rattle.verdicts.specs.Verdicts.{IsAcceptance, IsTextOf, IsTextOfIn, Says, SaysBy};
+ghost use Rattle.verdicts.specs.Verdicts.{IsAcceptance, IsTextOf, IsTextOver, Says, SaysBy};
 
 use crate::whole_judge::{OverNumbers, WholeLines};
 use elf_image::{ElfFault, Image, read};
@@ -54,7 +55,7 @@ pub fn check_text(alloc: Global, elf: &[u8], proof: &[u8], version: Version) -> 
     ensures headline { (version_of version).most_mems ≤ 1
         → IsAcceptance result
         → (ps : Items ProofTree)
-        → IsTextOfIn (version_of version) proof.now ps
+        → IsTextOver whole_lines (version_of version) proof.now ps
         → Headline elf.now (groups_of ps) }
 
     // A verdict that says what is so comes, but for lack of memory.
@@ -86,7 +87,7 @@ pub fn check_image(alloc: Global, image: &Image, proof: &[u8], version: Version)
         → (version_of version).most_mems ≤ 1
         → IsAcceptance result
         → (ps : Items ProofTree)
-        → IsTextOfIn (version_of version) proof.now ps
+        → IsTextOver whole_lines (version_of version) proof.now ps
         → Headline elf (groups_of ps) }
 
     // A verdict that says what is so comes, but for lack of memory.
@@ -145,7 +146,7 @@ pub fn check_pulled<S: Shelf>(
         IfFile (S.contents shelf.old) pull.old.rows.lines.name (λ file.
         IsAcceptance v
         → (ps : Items ProofTree)
-        → IsTextOfIn (version_of version) (held_text pull.old file) ps
+        → IsTextOver whole_lines (version_of version) (held_text pull.old file) ps
         → Headline elf (groups_of ps))) }
     ensures exact { (elf : Items ℕ)
         → IsReadable elf

@@ -14,9 +14,8 @@ ghost use Rattle.proof_text.specs.inner.PulledRows.{IfFile};
 ghost use Rattle.short_text.specs.ShortProofs.{ShortProof, short_lines};
 ghost use Rattle.verdicts.specs.declared.verdict.Verdict.{Verdict as VerdictOf};
 ghost use Rattle.claims.specs.Headline.{Headline};
-ghost use Rattle.verdicts.specs.LineRules.{IsTextOver, SaysOver};
 ghost use Rattle.verdicts.specs.Pulled.{IfVerdict, as_verdict, is_outside};
-ghost use Rattle.verdicts.specs.Verdicts.{IsAcceptance};
+ghost use Rattle.verdicts.specs.Verdicts.{IsAcceptance, IsTextOver, SaysOver};
 ghost use Rattle.checker.specs.ShortRules.{short_rules};
 
 use crate::short_judge::{ByTable, OverTables};

@@ -9,6 +9,8 @@ use Rattle.tailrec_lang.specs.Tree.{GroupTree, group_tree}
 use Rattle.group_text.specs.Limits.{IsGroup, IsName}
 use Rattle.proof_text.specs.Line.{LineTree, line_tree}
 use Rattle.verdicts.specs.Accepts.{IsAccepted}
+use Rattle.verdicts.specs.Instance.{no_rule}
+use Rattle.verdicts.proofs.WholeLemmas.{accepted-by}
 use Rattle.claims.specs.Exact.{FirstReturns}
 use Rattle.claims.specs.Turns.{InFirstMemory}
 use Rattle.decompiler.proofs.Counts.{Returning, counts-of, exact-of}
@@ -79,11 +81,9 @@ module _ (file name : List ℕ) (e : ℕ) (g : GraphOf) (f : ForestOf) (bytes : 
     accepted_it lines closed =
         let last = last-is false (code_of_file file) e g f (alone g parts) graph forest order in
         let count : length (map (part_def (flow_of g f (alone g parts))) parts) ≡ length parts = length-map (part_def (flow_of g f (alone g parts))) parts in
-        record {
-          well_formed = group-formed (flow_of g f (alone g parts)) (group_of (flow_of g f (alone g parts)) name ranges parts) parts (is-graph false (code_of_file file) e g f (alone g parts) graph forest) made;
-          lines = closed.right;
-          proved = record { closed = closed.closed (length (map (part_def (flow_of g f (alone g parts))) parts) - 1) (omega (arith, last, count)); code = within };
-        }
+        accepted-by no_rule file (record { group = group_of (flow_of g f (alone g parts)) name ranges parts; lines = lines })
+        (group-formed (flow_of g f (alone g parts)) (group_of (flow_of g f (alone g parts)) name ranges parts) parts (is-graph false (code_of_file file) e g f (alone g parts) graph forest) made)
+        closed.right (closed.closed (length (map (part_def (flow_of g f (alone g parts))) parts) - 1) (omega (arith, last, count))) within
 
     pub gains_it : Returning FirstReturns file (group_of (flow_of g f (alone g parts)) name ranges parts)
     gains_it = flow-gains file e g f parts name ranges graph forest bytes have order within

@@ -8,7 +8,7 @@ use Rattle.verdicts.specs.Instance.{no_rule}
 use Rattle.verdicts.specs.Verdicts.{Says}
 use Rattle.verdicts.specs.declared.verdict.Verdict.{Verdict}
 use Rattle.verdicts.specs.declared.verdict.Verdict.TheVariants as verdict
-use Rattle.verdicts.proofs.OneVerdict.{verdict-once}
+use Rattle.verdicts.proofs.CheckLemmas.{whole-once}
 use Rattle.mcdec_answers.specs.declared.answer.MigrateAnswer.{MigrateAnswer}
 use Rattle.mcdec_answers.specs.declared.answer.MigrateAnswer.TheVariants as mi
 use Rattle.mcdec_commands.specs.EvalAnswer.{proof_limit}
@@ -28,7 +28,7 @@ text-unique : (file text : List ℕ) (a b : MigrateAnswer) → TextCase file tex
 text-unique file text a b (inl h) (inl k) = h.1 ∙ sym k.1
 text-unique file text a b (inl h) (inr k) = absurd (over (length text) proof_limit h.0 k.0)
 text-unique file text a b (inr h) (inl k) = absurd (over (length text) proof_limit k.0 h.0)
-text-unique file text a b (inr (short, v, some, says, is)) (inr (less, w, other, said, this)) = is ∙ ap answer_by (verdict-once no_rule One file text v w some other says said) ∙ sym this
+text-unique file text a b (inr (short, v, some, says, is)) (inr (less, w, other, said, this)) = is ∙ ap answer_by (whole-once no_rule One file text v w some other says said) ∙ sym this
 
 abbrev FileCase : Contents → List ℕ → List ℕ → MigrateAnswer → Type 0
 FileCase files proof file a =

@@ -10,7 +10,8 @@ use Rattle.proof_text.specs.Proofs.{AreProofsIn, text_of_proofs_in}
 use Rattle.frame_compose.specs.Rules.{IsExchanged, IsSteered}
 use Rattle.verdicts.specs.Instance.{FurtherRule, no_rule}
 use Rattle.verdicts.specs.Accepts.{AcceptsBy}
-use Rattle.verdicts.specs.Verdicts.{IsAcceptedText, line_count}
+use Rattle.verdicts.specs.LineRules.{count_over, whole_rules}
+use Rattle.verdicts.specs.Verdicts.{IsAcceptedOver}
 use Rattle.verdicts.specs.declared.verdict.Verdict.TheVariants as verdict
 use Rattle.proof_v2.specs.Titles.{named_version}
 use Rattle.proof_v2.specs.AnyVerdicts.{SaysIn, SaysOf}
@@ -31,7 +32,7 @@ named-four : (ps : List ProofTree) → named_version (text_of_proofs_in version_
 named-four ps = refl
 
 accepted-text : (F : FurtherRule) (v : Version) (file text : List ℕ) (ps : List ProofTree) → AreProofsIn v ps → text ≡ text_of_proofs_in v ps → AcceptsBy F file ps
-    → IsAcceptedText F v file text (length ps) (line_count ps)
+    → IsAcceptedOver (whole_rules F) v file text (length ps) (count_over (whole_rules F) ps)
 accepted-text F v file text ps fit spelled accepted = record { proofs = ps; spelled = record { fit = fit; spelled = spelled }; accepted = accepted; groups = refl; count = refl }
 
 -- a text by its version
@@ -51,7 +52,7 @@ in-each-form P alone linked split Split = split
 
 module _ (law : AreAcceptedItems) where
   accepted-in : (form : Form) (file text : List ℕ) (names : List (List ℕ)) (p : Proof) → IsReadable file → AreItemsIn form file names p → text ≡ text_of_proofs_in (version_in form) (proofs_of p)
-      → SaysOf file text (verdict.Accepted (length (proofs_of p)) (line_count (proofs_of p)))
+      → SaysOf file text (verdict.Accepted (length (proofs_of p)) (count_over (whole_rules no_rule) (proofs_of p)))
   accepted-in Alone file text names p readable items is =
       says-of One file text _ _ (subst (λ (t : List ℕ). named_version t ≡ One) (sym is) (named-one (proofs_of p)))
       (accepted-text no_rule version_1 file text (proofs_of p) (law.text Alone file names p items) is (law.accepted Alone file names p readable items))
@@ -70,4 +71,4 @@ module _ (law : AreAcceptedItems) where
   written-accepted form files elf names a text file w held =
       let same : w.file ≡ file = one-file w.file file (files elf) w.holds held in
       subst (λ (f : List ℕ). (functions : ℕ) × (lines : ℕ) × SaysOf f text (verdict.Accepted functions lines)) same
-      (length (proofs_of w.proof), line_count (proofs_of w.proof), accepted-in form w.file text names w.proof w.loaded.1 w.items w.spelled)
+      (length (proofs_of w.proof), count_over (whole_rules no_rule) (proofs_of w.proof), accepted-in form w.file text names w.proof w.loaded.1 w.items w.spelled)

@@ -1,11 +1,8 @@
 -- A text of version 1 that is accepted becomes one of version 2 that is accepted, with the same groups and as many lines.
-use Rattle.std.proofs.Common.{◌≡◌, ℕ, List, [], ◌∷◌, ◌++◌, true, if◌then◌else◌, length, map, fold, refl, sym, ap, ◌∙◌, subst, append_assoc, append-nil, arith}
+use Rattle.std.proofs.Common.{◌≡◌, ℕ, List, [], ◌∷◌, ◌++◌, if◌then◌else◌, length, map, fold, refl, sym, ap, ◌∙◌, subst, append_assoc, append-nil, arith}
 use Rattle.std.specs.List.{AllByRecursion, AllZip}
 use Rattle.std.proofs.lemmas.List.Sums.{sum_by-cons}
-use Rattle.rv_words.specs.Ranges.{range_bytes}
-use Rattle.elf_image.specs.Image.{code_of_file}
-use Rattle.sep_assert.specs.Code.{IsWithin}
-use Rattle.tailrec_lang.specs.Tree.{GroupTree, listed_def}
+use Rattle.tailrec_lang.specs.Tree.{GroupTree}
 use Rattle.tailrec_lang.specs.WellFormed.{IsWellFormed}
 use Rattle.term_arena.specs.declared.node.Node.{Node}
 use Rattle.group_text.specs.declared.version.Version.TheVariants.{One}
@@ -15,10 +12,11 @@ use Rattle.proof_text.specs.Proofs.{groups_of}
 use Rattle.proof_text.proofs.ProofTexts.{proofs-once}
 use Rattle.proof_text.proofs.WholeLaws.{lines_known}
 use Rattle.verdicts.specs.Accepts.{IsAccepted}
-use Rattle.verdicts.specs.Instance.{History, after_line, after_lines, no_lines, no_rule}
-use Rattle.verdicts.specs.LineRules.{AllLeave, IsAcceptedOver, IsProvedOver, IsTextOver, counted_in, count_over}
-use Rattle.verdicts.specs.Verdicts.{IsAcceptedText, IsTextOf, line_count}
-use Rattle.group_text.specs.Version.{version_1}
+use Rattle.verdicts.specs.Instance.{History, after_line, no_lines, no_rule}
+use Rattle.verdicts.specs.LineRules.{AllLeave, IsClosedFor, IsProvedOver, counted_in, count_over, whole_rules}
+use Rattle.verdicts.specs.Verdicts.{IsAcceptedOver, IsTextOf, IsTextOver, Says}
+use Rattle.verdicts.specs.declared.verdict.Verdict.TheVariants as verdict
+use Rattle.verdicts.proofs.WholeLemmas.{lines-left}
 use Rattle.short_text.specs.declared.short.Short.{Short}
 use Rattle.short_text.specs.declared.short.ShortLine.{ShortLine}
 use Rattle.short_text.specs.declared.short.ShortLine.TheVariants.{Term, Proof}
@@ -67,27 +65,29 @@ terms-counted : (ns : List Node) (ss : List Short) → counted_in short_rules (m
 terms-counted [] ss = lines-counted ss
 terms-counted (n ∷ ns) ss = omega (arith, sum_by-cons counts (Term n) (map Term ns ++ map Proof ss), terms-counted ns ss)
 
+each-counted : (ls : List LineTree) → counted_in (whole_rules no_rule) ls ≡ length ls
+each-counted [] = refl
+each-counted (l ∷ ls) = omega (arith, sum_by-cons (λ (k : LineTree). 1) l ls, each-counted ls)
+
 module _ (p : ProofTree) (q : ShortProof) (m : IsMigratedProof p q) (fit : AreShortLines q.lines) where
-  proof-counted : counted_in short_rules q.lines ≡ length p.lines
+  proof-counted : counted_in short_rules q.lines ≡ counted_in (whole_rules no_rule) p.lines
   proof-counted =
       ap (counted_in short_rules) (apart q.lines fit) ∙ terms-counted (table_of q.lines) (proof_lines q.lines)
-      ∙ as-many p.group no_lines (table_of q.lines) (proof_lines q.lines) p.lines m.proof.lines
+      ∙ as-many p.group no_lines (table_of q.lines) (proof_lines q.lines) p.lines m.proof.lines ∙ sym (each-counted p.lines)
 
   -- ---- a group
 
   pub proof-proved : (file : List ℕ) → IsAccepted file p → IsProvedOver short_rules file q
-  proof-proved file a = (
-    after_lines p.lines,
-    record { well_formed = subst IsWellFormed (sym m.group) a.well_formed; lines = subst (λ (g : GroupTree). AllLeave short_rules g [] no_lines q.lines (after_lines p.lines)) (sym m.group) leave },
-    record {
-      closed = subst (λ (g : GroupTree). (after_lines p.lines).closed (listed_def g) ≡ true) (sym m.group) a.proved.closed;
-      code = subst (λ (g : GroupTree). IsWithin (range_bytes g.code) (code_of_file file)) (sym m.group) a.proved.code;
-    },
+  proof-proved file (after, right, closed) = (
+    after,
+    record { well_formed = subst IsWellFormed (sym m.group) right.well_formed; lines = subst (λ (g : GroupTree). AllLeave short_rules g [] no_lines q.lines after) (sym m.group) leave },
+    subst (λ (g : GroupTree). IsClosedFor file g after) (sym m.group) closed,
   )
     where
-      leave : AllLeave short_rules p.group [] no_lines q.lines (after_lines p.lines)
-      leave = subst (λ (ls : List ShortLine). AllLeave short_rules p.group [] no_lines ls (after_lines p.lines)) (sym (apart q.lines fit))
-          (terms-leave p.group (table_of q.lines) [] no_lines (table_of q.lines) (proof_lines q.lines) p.lines refl m.proof.lines)
+      leave : AllLeave short_rules p.group [] no_lines q.lines after
+      leave = subst (λ (ls : List ShortLine). AllLeave short_rules p.group [] no_lines ls after) (sym (apart q.lines fit))
+          (subst (λ (h : History). AllLeave short_rules p.group [] no_lines (map Term (table_of q.lines) ++ map Proof (proof_lines q.lines)) h) (sym (lines-left no_rule p.group [] no_lines p.lines after right.lines))
+          (terms-leave p.group (table_of q.lines) [] no_lines (table_of q.lines) (proof_lines q.lines) p.lines refl m.proof.lines))
 
 -- ---- groups
 
@@ -97,12 +97,12 @@ all-proved file [] (q ∷ qs) m fit a = absurd m
 all-proved file (p ∷ ps) [] m fit a = absurd m
 all-proved file (p ∷ ps) (q ∷ qs) m fit a = (proof-proved p q m.0 fit.0.lines file a.0, all-proved file ps qs m.1 fit.1 a.1)
 
-all-counted : (ps : List ProofTree) (qs : List ShortProof) → AllZip IsMigratedProof ps qs → AreShortProofs qs → line_count ps ≡ count_over short_rules qs
+all-counted : (ps : List ProofTree) (qs : List ShortProof) → AllZip IsMigratedProof ps qs → AreShortProofs qs → count_over (whole_rules no_rule) ps ≡ count_over short_rules qs
 all-counted [] [] m fit = refl
 all-counted [] (q ∷ qs) m fit = absurd m
 all-counted (p ∷ ps) [] m fit = absurd m
 all-counted (p ∷ ps) (q ∷ qs) m fit =
-    let first = sum_by-cons (λ (p : ProofTree). length p.lines) p ps in
+    let first = sum_by-cons (λ (p : ProofTree). counted_in (whole_rules no_rule) p.lines) p ps in
     let second = sum_by-cons (λ (q : ShortProof). counted_in short_rules q.lines) q qs in
     let here = proof-counted p q m.0 fit.0.lines in
     let others = all-counted ps qs m.1 fit.1 in
@@ -123,19 +123,18 @@ as-many-groups (p ∷ ps) (q ∷ qs) m = let others = as-many-groups ps qs m.1 i
 -- ---- texts
 
 module _ (file text more : List ℕ) (m : IsMigratedText file text more) where
-  pub still-accepted : IsAcceptedOver short_rules version_2 file more (length m.old) (line_count m.old)
+  pub still-accepted : IsAcceptedOver short_rules version_2 file more (length m.old) (count_over (whole_rules no_rule) m.old)
   still-accepted = record {
     proofs = m.new;
     spelled = record { fit = m.fit; spelled = m.is };
-    readable = m.accepted.readable;
-    proved = all-proved file m.old m.new m.migrated m.fit m.accepted.each;
+    accepted = record { readable = m.accepted.readable; each = all-proved file m.old m.new m.migrated m.fit m.accepted.each };
     groups = as-many-groups m.old m.new m.migrated;
     count = all-counted m.old m.new m.migrated m.fit;
   }
 
   -- so are both texts, with the same numbers
-  pub both-accepted : (f : ℕ) × (l : ℕ) × IsAcceptedText no_rule version_1 file text f l × IsAcceptedOver short_rules version_2 file more f l
-  both-accepted = (length m.old, line_count m.old, record { proofs = m.old; spelled = m.spelled; accepted = m.accepted; groups = refl; count = refl }, still-accepted)
+  pub both-accepted : (f : ℕ) × (l : ℕ) × Says file text (verdict.Accepted f l) × IsAcceptedOver short_rules version_2 file more f l
+  both-accepted = (length m.old, count_over (whole_rules no_rule) m.old, record { proofs = m.old; spelled = m.spelled; accepted = m.accepted; groups = refl; count = refl }, still-accepted)
 
   -- it was the text of these proofs alone
   old-once : (ps : List ProofTree) → IsTextOf text ps → m.old ≡ ps
@@ -145,11 +144,11 @@ module _ (file text more : List ℕ) (m : IsMigratedText file text more) where
   new-once : (qs : List ShortProof) → IsTextOver short_lines version_2 more qs → m.new ≡ qs
   new-once qs h = proofs-once shorts_known m.new qs m.fit h.fit (sym m.is ∙ h.spelled)
 
-  pub accepted-alike : (f l : ℕ) → IsAcceptedText no_rule version_1 file text f l → IsAcceptedOver short_rules version_2 file more f l
+  pub accepted-alike : (f l : ℕ) → Says file text (verdict.Accepted f l) → IsAcceptedOver short_rules version_2 file more f l
   accepted-alike f l a =
       let same : m.old ≡ a.proofs = old-once a.proofs a.spelled in
       let groups : length m.old ≡ f = ap length same ∙ sym a.groups in
-      let lines : line_count m.old ≡ l = ap line_count same ∙ sym a.count in
+      let lines : count_over (whole_rules no_rule) m.old ≡ l = ap (count_over (whole_rules no_rule)) same ∙ sym a.count in
       subst (λ (n : ℕ). IsAcceptedOver short_rules version_2 file more n l) groups (subst (λ (n : ℕ). IsAcceptedOver short_rules version_2 file more (length m.old) n) lines still-accepted)
 
   pub groups-alike : (ps : List ProofTree) (qs : List ShortProof) → IsTextOf text ps → IsTextOver short_lines version_2 more qs → groups_of qs ≡ groups_of ps

@@ -12,11 +12,10 @@ use Rattle.frame_compose.specs.Rules.{IsSteered}
 use Rattle.frame_compose.proofs.SteerLemmas.{valid_steered}
 use Rattle.verdicts.specs.Further.{further_of}
 use Rattle.verdicts.specs.Instance.{no_rule}
-use Rattle.verdicts.specs.LineRules.{SaysOver}
-use Rattle.verdicts.specs.Verdicts.{IsAcceptance, SaysBy}
+use Rattle.verdicts.specs.Verdicts.{IsAcceptance, SaysBy, SaysOver}
 use Rattle.verdicts.specs.declared.verdict.Verdict.{Verdict}
 use Rattle.verdicts.specs.declared.verdict.Verdict.TheVariants as verdict
-use Rattle.verdicts.proofs.CheckLemmas.{accepted-headline, verdict-comes}
+use Rattle.verdicts.proofs.CheckLemmas.{accepted-headline, whole-comes}
 use Rattle.verdicts.proofs.SoundLemmas.{no_rule-keeps}
 use Rattle.verdicts.proofs.KeptLemmas.{accepted-headline as split-headline}
 use Rattle.checker.specs.ShortRules.{short_rules}
@@ -30,24 +29,24 @@ listed-right k file text gs l h = subst (Headline file) (sym l.groups) h
 
 -- what is accepted is right
 pub accepted-in : (k : Known) (file text : List ℕ) (w : Verdict) → SaysIn k file text w → IsAcceptance w → (gs : List GroupTree) → ListsIn k text gs → Headline file gs
-accepted-in One file text w says accepts gs l = listed-right One file text gs l (accepted-headline no_rule no_rule-keeps One (omega arith) file text w says accepts l.proofs (record { fit = l.spelled.fit; spelled = l.spelled.spelled }))
+accepted-in One file text w says accepts gs l = listed-right One file text gs l (accepted-headline no_rule no_rule-keeps One (omega arith) file text w says accepts l.proofs l.spelled)
 accepted-in Two file text w says accepts gs l = listed-right Two file text gs l (short_headline file text w says accepts l.proofs l.spelled)
-accepted-in Three file text w says accepts gs l = listed-right Three file text gs l (accepted-headline IsSteered valid_steered Three (omega arith) file text w says accepts l.proofs (record { fit = l.spelled.fit; spelled = l.spelled.spelled }))
-accepted-in Four file text w says accepts gs l = listed-right Four file text gs l (split-headline file text w says accepts l.proofs (record { fit = l.spelled.fit; spelled = l.spelled.spelled }))
+accepted-in Three file text w says accepts gs l = listed-right Three file text gs l (accepted-headline IsSteered valid_steered Three (omega arith) file text w says accepts l.proofs l.spelled)
+accepted-in Four file text w says accepts gs l = listed-right Four file text gs l (split-headline file text w says accepts l.proofs l.spelled)
 
 -- a verdict that says what is so comes, but for lack of memory
 pub verdict-comes-in : (k : Known) (file text : List ℕ) (w : Verdict) → SaysIn k file text w → (v : Verdict) → SaysIn k file text v → (w ≡ v) ⊎ (v ≡ verdict.NoMemory) ⊎ (w ≡ verdict.NoMemory)
-verdict-comes-in One file text = verdict-comes (further_of One) One file text
+verdict-comes-in One file text = whole-comes (further_of One) One file text
 verdict-comes-in Two file text = short_comes file text
-verdict-comes-in Three file text = verdict-comes (further_of Three) Three file text
-verdict-comes-in Four file text = verdict-comes (further_of Four) Four file text
+verdict-comes-in Three file text = whole-comes (further_of Three) Three file text
+verdict-comes-in Four file text = whole-comes (further_of Four) Four file text
 
 -- a text that is accepted has groups
 pub accepted-lists : (k : Known) (file text : List ℕ) (functions lines : ℕ) → SaysIn k file text (verdict.Accepted functions lines) → (gs : List GroupTree) × ListsIn k text gs
-accepted-lists One file text functions lines h = (groups_of h.proofs, record { proofs = h.proofs; spelled = record { fit = h.spelled.fit; spelled = h.spelled.spelled }; groups = refl })
+accepted-lists One file text functions lines h = (groups_of h.proofs, record { proofs = h.proofs; spelled = h.spelled; groups = refl })
 accepted-lists Two file text functions lines h = (groups_of h.proofs, record { proofs = h.proofs; spelled = h.spelled; groups = refl })
-accepted-lists Three file text functions lines h = (groups_of h.proofs, record { proofs = h.proofs; spelled = record { fit = h.spelled.fit; spelled = h.spelled.spelled }; groups = refl })
-accepted-lists Four file text functions lines h = (groups_of h.proofs, record { proofs = h.proofs; spelled = record { fit = h.spelled.fit; spelled = h.spelled.spelled }; groups = refl })
+accepted-lists Three file text functions lines h = (groups_of h.proofs, record { proofs = h.proofs; spelled = h.spelled; groups = refl })
+accepted-lists Four file text functions lines h = (groups_of h.proofs, record { proofs = h.proofs; spelled = h.spelled; groups = refl })
 
 -- lack of memory says nothing
 pub says-nothing : (k : Known) (file text : List ℕ) → SaysIn k file text verdict.NoMemory

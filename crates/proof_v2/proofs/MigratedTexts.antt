@@ -1,31 +1,31 @@
 -- A text that is accepted, and what it becomes.
-use Rattle.std.proofs.Common.{◌≡◌, ◌⊎◌, ℕ, List, [], ◌∷◌, Result, Err, inl, inr, refl, sym, ap, ◌∙◌, subst}
-use Rattle.std.specs.List.{AllByRecursion}
+use Rattle.std.proofs.Common.{◌≡◌, ◌⊎◌, ℕ, List, Result, Err, inl, inr, refl, sym, ap, ◌∙◌, subst}
 use Rattle.group_text.specs.declared.version.Version.TheVariants.{One}
-use Rattle.group_text.specs.Version.{version_1}
-use Rattle.proof_text.specs.Line.{ProofTree}
-use Rattle.proof_text.proofs.ProofTexts.{proofs-once}
 use Rattle.proof_text.proofs.WholeLaws.{lines_known}
 use Rattle.verdicts.specs.declared.verdict.Verdict.{Verdict}
 use Rattle.verdicts.specs.declared.verdict.Verdict.TheVariants as verdict
-use Rattle.verdicts.specs.Accepts.{Accepts, IsAccepted}
 use Rattle.verdicts.specs.Instance.{no_rule}
-use Rattle.verdicts.specs.Verdicts.{AreRightSoFar, IsAcceptance, IsAcceptedText, Says}
+use Rattle.verdicts.specs.LineRules.{whole_rules}
+use Rattle.verdicts.specs.Verdicts.{IsAcceptance, Says}
+use Rattle.verdicts.proofs.FirstLemmas.{proved-right}
+use Rattle.verdicts.proofs.OneVerdict.{accepted-proofs}
 use Rattle.proof_v2.specs.MigratedText.{IsMigratedText}
 use Rattle.proof_v2.specs.inner.Rewriting.{BecomesText, IsRightText}
 
-module _ (file text : List ℕ) (f l : ℕ) (a : IsAcceptedText no_rule version_1 file text f l) where
-  accepted-right : (ps : List ProofTree) → AllByRecursion (IsAccepted file) ps → AreRightSoFar no_rule ps
-  accepted-right [] h = tt
-  accepted-right (p ∷ ps) h = (record { well_formed = h.0.well_formed; lines = h.0.lines }, accepted-right ps h.1)
-
+module _ (file text : List ℕ) (f l : ℕ) (a : Says file text (verdict.Accepted f l)) where
   pub right-text : IsRightText text
-  right-text = record { proofs = a.proofs; spelled = a.spelled; right = accepted-right a.proofs a.accepted.each }
+  right-text = record { proofs = a.proofs; spelled = a.spelled; right = proved-right (whole_rules no_rule) file a.proofs a.accepted.each }
 
   pub migrated-text : (more : List ℕ) → BecomesText text more → IsMigratedText file text more
-  migrated-text more b =
-      let same : a.proofs ≡ b.old = proofs-once (lines_known One) a.proofs b.old a.spelled.fit b.spelled.fit (sym a.spelled.spelled ∙ b.spelled.spelled) in
-      record { old = b.old; spelled = b.spelled; accepted = subst (Accepts file) same a.accepted; new = b.new; migrated = b.migrated; fit = b.fit; is = b.is }
+  migrated-text more b = record {
+    old = b.old;
+    spelled = b.spelled;
+    accepted = accepted-proofs (lines_known One) (whole_rules no_rule) file text (verdict.Accepted f l) a tt b.old b.spelled;
+    new = b.new;
+    migrated = b.migrated;
+    fit = b.fit;
+    is = b.is;
+  }
 
 -- which verdict refuses it
 pub refused-by : {X : Type 0} (checked v : Verdict) (result : Result X Verdict) → result ≡ Err checked → (checked ≡ v) ⊎ (v ≡ verdict.NoMemory) ⊎ (checked ≡ verdict.NoMemory)

@@ -10,7 +10,7 @@ use Rattle.proof_text.specs.LineGrammar.{LineGrammar, texts_over, whole_lines}
 use Rattle.proof_text.specs.Proofs.{groups_of}
 use Rattle.proof_text.specs.FirstProofs.{AreReadOver}
 use Rattle.short_text.specs.ShortProofs.{short_lines}
-use Rattle.verdicts.specs.LineRules.{IsTextOver}
+use Rattle.verdicts.specs.Verdicts.{IsTextOver}
 
 -- In version 2 there are the terms of a table, and short lines over it; in each other version lines that state whole triples.
 abbrev pub any_lines : Known → LineGrammar

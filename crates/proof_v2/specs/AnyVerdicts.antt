@@ -5,8 +5,7 @@ use Rattle.group_text.specs.declared.version.Version.{Version as Known}
 use Rattle.group_text.specs.declared.version.Version.TheVariants.{One, Two, Three, Four}
 use Rattle.group_text.specs.Version.{version_of}
 use Rattle.verdicts.specs.Further.{further_of}
-use Rattle.verdicts.specs.LineRules.{SaysOver}
-use Rattle.verdicts.specs.Verdicts.{SaysBy}
+use Rattle.verdicts.specs.Verdicts.{SaysBy, SaysOver}
 use Rattle.verdicts.specs.declared.verdict.Verdict.{Verdict}
 use Rattle.checker.specs.ShortRules.{short_rules}
 use Rattle.proof_v2.specs.AnyText.{ListsIn}

@@ -7,11 +7,12 @@ ghost use Rattle.mc_shelf.specs.inner.OnlyReads.{OnlyReads};
 ghost use Rattle.tailrec_lang.specs.Tree.{GroupTree};
 ghost use Rattle.group_text.specs.Version.{version_3, version_4};
 ghost use Rattle.proof_text.specs.Line.{ProofTree};
+ghost use Rattle.proof_text.specs.LineGrammar.{whole_lines};
 ghost use Rattle.proof_text.specs.Proofs.{groups_of};
 ghost use Rattle.proof_text.specs.inner.PulledRows.{IfFile};
 ghost use Rattle.claims.specs.Headline.{Headline};
 ghost use Rattle.verdicts.specs.Pulled.{IfVerdict, is_outside};
-ghost use Rattle.verdicts.specs.Verdicts.{IsAcceptance, IsTextOfIn, SaysBy};
+ghost use Rattle.verdicts.specs.Verdicts.{IsAcceptance, IsTextOver, SaysBy};
 ghost use Rattle.verdicts.specs.declared.verdict.Verdict.{Verdict as VerdictOf};
 ghost use Rattle.frame_compose.specs.Rules.{IsExchanged, IsSteered};
 ghost use Rattle.proof_v2.specs.AnyText.{ListsIn};
@@ -67,7 +68,7 @@ pub fn check_linked(alloc: Global, elf: &[u8], proof: &[u8]) -> Verdict
     // Where they are accepted, the functions of the text are right.
     ensures headline { IsAcceptance result
         → (ps : Items ProofTree)
-        → IsTextOfIn version_3 proof.now ps
+        → IsTextOver whole_lines version_3 proof.now ps
         → Headline elf.now (groups_of ps) }
 
     // A verdict that says what is so comes, but for lack of memory.
@@ -87,7 +88,7 @@ pub fn check_split(alloc: Global, elf: &[u8], proof: &[u8]) -> Verdict
     // apart, one for each memory.
     ensures headline { IsAcceptance result
         → (ps : Items ProofTree)
-        → IsTextOfIn version_4 proof.now ps
+        → IsTextOver whole_lines version_4 proof.now ps
         → Headline elf.now (groups_of ps) }
 
     // A verdict that says what is so comes, but for lack of memory.

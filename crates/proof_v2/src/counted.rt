@@ -4,8 +4,7 @@ ghost use Rattle.std.specs.Prelude.{◌≡◌, ℕ, List as Items, IfErr, IfOk};
 ghost use Rattle.elf_image.specs.Fault.{IsReadable};
 ghost use Rattle.elf_image.specs.Image.{image_of};
 ghost use Rattle.group_text.specs.Version.{version_2};
-ghost use Rattle.verdicts.specs.LineRules.{IsAcceptedOver};
-ghost use Rattle.verdicts.specs.Verdicts.{IsAcceptance, Says};
+ghost use Rattle.verdicts.specs.Verdicts.{IsAcceptance, IsAcceptedOver, Says};
 ghost use Rattle.checker.specs.ShortRules.{short_rules};
 ghost use Rattle.proof_v2.specs.MigratedText.{IsMigratedText};
 

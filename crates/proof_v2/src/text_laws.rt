@@ -4,8 +4,9 @@ ghost use Rattle.std.specs.Prelude.{◌≡◌, ℕ, List, length};
 ghost use Rattle.group_text.specs.Version.{version_2};
 ghost use Rattle.proof_text.specs.Line.{ProofTree};
 ghost use Rattle.proof_text.specs.Proofs.{groups_of};
-ghost use Rattle.verdicts.specs.LineRules.{IsAcceptedOver, IsTextOver};
-ghost use Rattle.verdicts.specs.Verdicts.{IsTextOf, Says, line_count};
+ghost use Rattle.verdicts.specs.Instance.{no_rule};
+ghost use Rattle.verdicts.specs.LineRules.{count_over, whole_rules};
+ghost use Rattle.verdicts.specs.Verdicts.{IsAcceptedOver, IsTextOf, IsTextOver, Says};
 ghost use Rattle.verdicts.specs.declared.verdict.Verdict.TheVariants.{Accepted};
 ghost use Rattle.short_text.specs.ShortProofs.{ShortProof, short_lines};
 ghost use Rattle.checker.specs.ShortRules.{short_rules};
@@ -15,7 +16,8 @@ ghost use Rattle.proof_v2.specs.MigratedText.{IsMigratedText};
 /// it, with the same groups and as many lines.
 pub fn law_of_migrated_texts()
     ensures accepted { (file text more : List ℕ) (m : IsMigratedText file text more)
-        → IsAcceptedOver short_rules version_2 file more (length m.old) (line_count m.old) }
+        → IsAcceptedOver short_rules version_2 file more (length m.old)
+        (count_over (whole_rules no_rule) m.old) }
 
     // The numbers are those that a verdict on the text of version 1 says.
     ensures counted { (file text more : List ℕ) (functions lines : ℕ)

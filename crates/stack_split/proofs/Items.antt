@@ -16,6 +16,7 @@ use Rattle.group_text.specs.declared.version.Version.TheVariants.{Four}
 use Rattle.proof_text.specs.Line.{LineTree, line_tree}
 use Rattle.frame_compose.specs.Rules.{IsExchanged}
 use Rattle.verdicts.specs.Accepts.{IsAcceptedBy}
+use Rattle.verdicts.proofs.WholeLemmas.{accepted-by}
 use Rattle.flow_graph.specs.Flow.{called_by}
 use Rattle.flow_graph.specs.Graph.{GraphOf, IsGraphOf}
 use Rattle.flow_graph.proofs.FlowLemmas.{is_flow}
@@ -157,12 +158,11 @@ module _ (file name : List ℕ) (e : ℕ) (g : GraphOf) (f : ForestOf) (second :
     accepted-split lines closed =
         let last = last-is false (code_of_file file) e g f (context_of (split g second parts)) graph forest order in
         let count : length (map (part_def (flow_of g f (context_of (split g second parts)))) parts) ≡ length parts = length-map (part_def (flow_of g f (context_of (split g second parts)))) parts in
-        record {
-          well_formed = group-formed (flow_of g f (context_of (split g second parts))) (group_of (flow_of g f (context_of (split g second parts))) name ranges parts) parts
-              (is-graph false (code_of_file file) e g f (context_of (split g second parts)) graph forest) (made (code_of_file file) e g f second parts bytes graph forest order ranges whole name);
-          lines = closed.right;
-          proved = record { closed = closed.closed (length (map (part_def (flow_of g f (context_of (split g second parts)))) parts) - 1) (omega (arith, last, count)); code = within (code_of_file file) e g f second parts bytes graph forest order ranges whole name };
-        }
+        accepted-by IsExchanged file (record { group = group_of (flow_of g f (context_of (split g second parts))) name ranges parts; lines = lines })
+        (group-formed (flow_of g f (context_of (split g second parts))) (group_of (flow_of g f (context_of (split g second parts))) name ranges parts) parts
+        (is-graph false (code_of_file file) e g f (context_of (split g second parts)) graph forest) (made (code_of_file file) e g f second parts bytes graph forest order ranges whole name))
+        closed.right (closed.closed (length (map (part_def (flow_of g f (context_of (split g second parts)))) parts) - 1) (omega (arith, last, count)))
+        (within (code_of_file file) e g f second parts bytes graph forest order ranges whole name)
 
     pub made-alone : AreStackAccesses (code_of_file file) e g.addrs second
         → AreDefsOf false (UsesSplit (code_of_file file) e) (code_of_file file) (function_in e g f second parts ∷ []) (group_of (flow_of g f (context_of (split g second parts))) name ranges parts)

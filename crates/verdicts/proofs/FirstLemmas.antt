@@ -1,17 +1,16 @@
 -- What is right of proofs is right of the first of them, and what is wrong stands last.
-use Rattle.std.proofs.Common.{◌≡◌, ℕ, zero, suc, ◌<◌, List, [], ◌∷◌, ◌++◌, length, map, slice_get, Some, refl, sym, subst, ◌∙◌, ◌⊎◌, ⊎_elim, inl, inr, append_assoc, arith}
-use Rattle.std.specs.Prelude.{fold}
+use Rattle.std.proofs.Common.{◌≡◌, ℕ, zero, suc, ◌<◌, List, [], ◌∷◌, ◌++◌, length, map, slice_get, Option, Some, None, refl, sym, subst, ◌∙◌, ◌⊎◌, ⊎_elim, inl, inr, append_assoc, arith}
+use Rattle.std.specs.Prelude.{IsSomeAnd, fold}
 use Rattle.std.specs.List.{AllByRecursion}
 use Rattle.std.proofs.lemmas.List.{append-nil}
 use Rattle.tailrec_lang.specs.Tree.{DefTree, GroupTree}
 use Rattle.tailrec_lang.specs.WellFormed.{IsWellFormed, IsFirstIllFormed}
-use Rattle.proof_text.specs.Line.{LineTree, ProofOf, ProofTree}
+use Rattle.proof_text.specs.Line.{LineTree, ProofOf}
 use Rattle.proof_text.specs.LineGrammar.{LineGrammar}
 use Rattle.proof_text.specs.Proofs.{bare}
-use Rattle.verdicts.specs.Instance.{FurtherRule, History, AreInstancesBy, InstanceBy, after_line, after_lines, no_lines}
+use Rattle.verdicts.specs.Instance.{History, after_line, no_lines}
 use Rattle.proof_text.specs.FirstProofs.{Adds, BeginsWithItems, ItemOf, Opens, items, with_line}
-use Rattle.verdicts.specs.Verdicts.{AreRightSoFar, IsRightSoFar}
-use Rattle.verdicts.specs.LineRules.{AllLeave, IsRightOver, LineRules}
+use Rattle.verdicts.specs.LineRules.{AllLeave, IsProvedOver, IsRightOver, LineRules}
 
 -- these are the first proofs of those, and the last of them may have further lines there
 abbrev pub AreFirst : {L : Type 0} → List (ProofOf L) → List (ProofOf L) → Type 0
@@ -22,20 +21,7 @@ AreFirst {L} (p ∷ r ∷ ps) (q ∷ qs) = (p ≡ q) × AreFirst (r ∷ ps) qs
 
 -- ---- lines
 
-first-lines-right : (F : FurtherRule) → (g : GroupTree) (h : History) (ls ms : List LineTree) → AreInstancesBy F g h (ls ++ ms) → AreInstancesBy F g h ls
-first-lines-right F g h [] ms all = tt
-first-lines-right F g h (l ∷ ls) ms all = (all.0, first-lines-right F g (after_line h l) ls ms all.1)
-
-last-line-right : (F : FurtherRule) → (g : GroupTree) (h : History) (ls : List LineTree) (l : LineTree) → AreInstancesBy F g h (ls ++ l ∷ []) → InstanceBy F g (fold after_line h ls) l
-last-line-right F g h [] l all = all.0
-last-line-right F g h (k ∷ ls) l all = last-line-right F g (after_line h k) ls l all.1
-
--- a line more
-pub line-more : (F : FurtherRule) → (g : GroupTree) (h : History) (ls : List LineTree) (l : LineTree) → AreInstancesBy F g h ls → InstanceBy F g (fold after_line h ls) l → AreInstancesBy F g h (ls ++ l ∷ [])
-line-more F g h [] l all here = (here, tt)
-line-more F g h (k ∷ ls) l all here = (all.0, line-more F g (after_line h k) ls l all.1 here)
-
--- what they leave behind them
+-- what whole lines leave, with one more
 pub after-more : (h : History) (ls : List LineTree) (l : LineTree) → fold after_line h (ls ++ l ∷ []) ≡ after_line (fold after_line h ls) l
 after-more h [] l = refl
 after-more h (k ∷ ls) l = after-more (after_line h k) ls l
@@ -54,6 +40,14 @@ module _ {L : LineGrammar} (J : LineRules L) (g : GroupTree) where
   first-leave before h [] ms after all = (h, refl)
   first-leave before h (l ∷ ls) ms after all = let k = first-leave (before ++ l ∷ []) all.0 ls ms after all.2 in (k.0, (all.0, all.1, k.1))
 
+  -- the last of them, behind those before it
+  pub last-leave : (before : List L.Line) (h : History) (ls : List L.Line) (l : L.Line) (after : History) → AllLeave J g before h (ls ++ l ∷ []) after
+      → (middle : History) × (next : History) × AllLeave J g before h ls middle × J.Leaves g (before ++ ls) middle l next
+  last-leave before h [] l after all = (h, all.0, refl, subst (λ (b : List L.Line). J.Leaves g b h l all.0) (sym (append-nil before)) all.1)
+  last-leave before h (k ∷ ls) l after all =
+      let rest = last-leave (before ++ k ∷ []) all.0 ls l after all.2 in
+      (rest.0, rest.1, (all.0, all.1, rest.2), subst (λ (b : List L.Line). J.Leaves g b rest.0 l rest.1) (append_assoc before (k ∷ []) ls) rest.3)
+
 -- ---- proofs
 
 none-first : {L : Type 0} (p : ProofOf L) (ps : List (ProofOf L)) → AreFirst (p ∷ ps) [] → ⊥
@@ -61,39 +55,32 @@ none-first p [] e = e
 none-first p (r ∷ ps) e = e
 
 module _ {L : LineGrammar} (J : LineRules L) where
-  -- the first of proofs in which nothing is wrong, whatever their lines are
-  pub first-right-over : (ps qs : List (ProofOf L.Line)) → AreFirst ps qs → AllByRecursion (IsRightOver J) qs → AllByRecursion (IsRightOver J) ps
-  first-right-over [] qs first right = tt
-  first-right-over (p ∷ ps) [] first right = absurd (none-first p ps first)
-  first-right-over (p ∷ []) (q ∷ qs) first right =
+  -- the first of proofs in which nothing is wrong
+  pub first-right : (ps qs : List (ProofOf L.Line)) → AreFirst ps qs → AllByRecursion (IsRightOver J) qs → AllByRecursion (IsRightOver J) ps
+  first-right [] qs first right = tt
+  first-right (p ∷ ps) [] first right = absurd (none-first p ps first)
+  first-right (p ∷ []) (q ∷ qs) first right =
       let r = right.0 in
       let same : AllLeave J p.group [] no_lines (p.lines ++ first.1) r.0 = subst (λ (ls : List L.Line). AllLeave J p.group [] no_lines ls r.0) (sym first.2) (subst (λ (g : GroupTree). AllLeave J g [] no_lines q.lines r.0) (sym first.0) r.1.lines) in
       let front = first-leave J p.group [] no_lines p.lines first.1 r.0 same in
       ((front.0, record { well_formed = subst IsWellFormed (sym first.0) r.1.well_formed; lines = front.1 }), tt)
-  first-right-over (p ∷ r ∷ ps) (q ∷ qs) first right = (subst (IsRightOver J) (sym first.0) right.0, first-right-over (r ∷ ps) qs first.1 right.1)
+  first-right (p ∷ r ∷ ps) (q ∷ qs) first right = (subst (IsRightOver J) (sym first.0) right.0, first-right (r ∷ ps) qs first.1 right.1)
 
--- the first of proofs in which nothing is wrong
-pub first-right : (F : FurtherRule) → (ps qs : List ProofTree) → AreFirst ps qs → AreRightSoFar F qs → AreRightSoFar F ps
-first-right F [] qs first right = tt
-first-right F (p ∷ ps) [] first right = absurd (none ps first)
-  where
-    none : (ps : List ProofTree) → AreFirst (p ∷ ps) [] → ⊥
-    none [] e = e
-    none (r ∷ ps) e = e
-first-right F (p ∷ []) (q ∷ qs) first right = (
-  record {
-    well_formed = subst IsWellFormed (sym first.0) right.0.well_formed;
-    lines = first-lines-right F p.group no_lines p.lines first.1 (subst (AreInstancesBy F p.group no_lines) (sym first.2) (subst (λ (g : GroupTree). AreInstancesBy F g no_lines q.lines) (sym first.0) right.0.lines));
-  },
-  tt,
-)
-first-right F (p ∷ r ∷ ps) (q ∷ qs) first right = (subst (IsRightSoFar F) (sym first.0) right.0, first-right F (r ∷ ps) qs first.1 right.1)
+  -- what is proved is right
+  pub proved-right : (file : List ℕ) (ps : List (ProofOf L.Line)) → AllByRecursion (IsProvedOver J file) ps → AllByRecursion (IsRightOver J) ps
+  proved-right file [] all = tt
+  proved-right file (p ∷ ps) all = ((all.0.0, all.0.1), proved-right file ps all.1)
+
+-- what is there
+pub that-some : {A : Type 0} (o : Option A) (P : A → Type 0) → IsSomeAnd o P → (x : A) × (o ≡ Some x) × P x
+that-some None P h = absurd h
+that-some (Some x) P h = (x, refl, h)
 
 pub all-more : {A : Type 0} (F : A → Type 0) (xs : List A) (x : A) → AllByRecursion F xs → F x → AllByRecursion F (xs ++ x ∷ [])
 all-more F [] x all here = (here, tt)
 all-more F (y ∷ xs) x all here = (all.0, all-more F xs x all.1 here)
 
-all-last : {A : Type 0} (F : A → Type 0) (xs : List A) (x : A) → AllByRecursion F (xs ++ x ∷ []) → F x
+pub all-last : {A : Type 0} (F : A → Type 0) (xs : List A) (x : A) → AllByRecursion F (xs ++ x ∷ []) → F x
 all-last F [] x all = all.0
 all-last F (y ∷ xs) x all = all-last F xs x all.1
 
@@ -102,7 +89,7 @@ def-there [] n lt = absurd (omega arith)
 def-there (d ∷ ds) zero lt = (d, refl)
 def-there (d ∷ ds) (suc n) lt = def-there ds n (omega arith)
 
-ill-formed : (g : GroupTree) (d : ℕ) → IsFirstIllFormed g d → IsWellFormed g → ⊥
+pub ill-formed : (g : GroupTree) (d : ℕ) → IsFirstIllFormed g d → IsWellFormed g → ⊥
 ill-formed g d first well = let x = def-there g.defs d first.there in first.here x.0 x.1 (well d x.0 x.1)
 
 not-earlier : (g : GroupTree) (c d : ℕ) → IsFirstIllFormed g c → IsFirstIllFormed g d → c < d → ⊥
@@ -110,13 +97,6 @@ not-earlier g c d h k lt = let x = def-there g.defs c h.there in h.here x.0 x.1 
 
 pub first-def : (g : GroupTree) (c d : ℕ) → IsFirstIllFormed g c → IsFirstIllFormed g d → c ≡ d
 first-def g c d h k = omega (arith, not-earlier g c d h k, not-earlier g d c k h)
-
--- where a definition or a line is wrong, not all is right
-pub def-wrong : (F : FurtherRule) → (b : List ProofTree) (g : GroupTree) (d : ℕ) → IsFirstIllFormed g d → AreRightSoFar F (b ++ bare g ∷ []) → ⊥
-def-wrong F b g d first right = ill-formed g d first ((all-last (IsRightSoFar F) b (bare g) right).well_formed)
-
-pub line-wrong : (F : FurtherRule) → (b : List ProofTree) (p : ProofTree) (l : LineTree) → (InstanceBy F p.group (after_lines p.lines) l → ⊥) → AreRightSoFar F (b ++ with_line p l ∷ []) → ⊥
-line-wrong F b p l wrong right = wrong (last-line-right F p.group no_lines p.lines l ((all-last (IsRightSoFar F) b (with_line p l) right).lines))
 
 -- ---- items
 

@@ -1,7 +1,7 @@
 -- What one more line and one more group make of what was judged, whatever lines stand behind groups.
 use Rattle.std.proofs.Common.{◌≡◌, ℕ, zero, suc, ◌+◌, Bool, true, false, List, [], ◌∷◌, ◌++◌, length, take, Option, map, Some, None, IfSome, Ok, Err, slice_get, refl, sym, ap, subst, ◌∙◌, ⊎_elim, append_assoc, arith}
 use Rattle.std.specs.List.{AllByRecursion}
-use Rattle.std.specs.Prelude.{◌↔◌, IsTrue, OnOk, Result, if◌then◌else◌}
+use Rattle.std.specs.Prelude.{◌↔◌, IsSomeAnd, IsTrue, OnOk, Result, if◌then◌else◌}
 use Rattle.std.proofs.lemmas.List.{append-nil, length-append}
 use Rattle.std.proofs.lemmas.List.Sums.{sum_by_push}
 use Rattle.mc_text.specs.Fault.{IsBadAt, newlines}
@@ -33,10 +33,11 @@ use Rattle.verdicts.specs.declared.verdict.Verdict.{Verdict}
 use Rattle.verdicts.specs.declared.verdict.Verdict.TheVariants as verdict
 use Rattle.verdicts.specs.Pulled.{as_verdict}
 use Rattle.verdicts.specs.Instance.{History, no_lines}
-use Rattle.verdicts.specs.LineRules.{AllLeave, IsBadTextOver, IsClosedFor, IsProvedOver, IsRightOver, IsRightTo, LineRules, SaysOver, counted_in, count_over}
+use Rattle.verdicts.specs.LineRules.{AllLeave, IsClosedFor, IsProvedOver, IsRightOver, IsRightTo, LineRules, counted_in, count_over}
+use Rattle.verdicts.specs.Verdicts.{IsBadTextOver, IsOpenOver, SaysOver}
 use Rattle.verdicts.specs.inner.Checking.{GivesLines, GroupsJudged, IsBadAfter, IsCodeOf, LineJudged, LinesJudged, LinesSoFar, LinesStopped, NextGroup, NextLine, ProofJudged, ProvedSo, TextJudged, first_not_proved, proof_of, verdict_for, verdict_of, with_group}
 use Rattle.verdicts.specs.inner.Sourced.{pulled_by, verdicts}
-use Rattle.verdicts.proofs.FirstLemmas.{all-more, begins-first, first-right-over, leave-more}
+use Rattle.verdicts.proofs.FirstLemmas.{all-more, begins-first, first-right, leave-more, that-some}
 use Rattle.verdicts.proofs.Told.{both-after, both-before, both-refl, both-three, both-two, some-all, some-two}
 
 -- ---- where no further item follows
@@ -236,23 +237,16 @@ module _ {L : LineGrammar} (J : LineRules L) where
   -- which is the first that isn't proved, with one more
   proved-more : (file : List ℕ) (ps : List (ProofOf L.Line)) (p : ProofOf L.Line) (after : History) (o : Option ℕ) (b : Bool) (n : ℕ) → n ≡ length ps → ProvedSo J file ps o → IsRightTo J p after → (IsTrue b ↔ IsClosedFor file p.group after)
       → ProvedSo J file (ps ++ p ∷ []) (first_not_proved o b n)
-  proved-more file ps p after (Some k) b n e h right is = record {
-    before = subst (AllByRecursion (IsProvedOver J file)) (sym (take-front ps p h.proof k h.there)) h.before;
-    proof = h.proof;
-    after = h.after;
-    there = get-front ps p h.proof k h.there;
-    so_far = h.so_far;
-    not_closed = h.not_closed;
-  }
+  proved-more file ps p after (Some k) b n e (before, here) right is =
+      let q = that-some (slice_get ps k) (IsOpenOver J file) here in (
+        subst (AllByRecursion (IsProvedOver J file)) (sym (take-front ps p q.0 k q.1)) before,
+        subst (λ (o : Option (ProofOf L.Line)). IsSomeAnd o (IsOpenOver J file)) (sym (get-front ps p q.0 k q.1)) q.2,
+      )
   proved-more file ps p after None true n e h right is = all-more (IsProvedOver J file) ps p h (after, right, is.0 refl)
-  proved-more file ps p after None false n e h right is = record {
-    before = subst (AllByRecursion (IsProvedOver J file)) (sym ((λ i. take (e i) (ps ++ p ∷ [])) ∙ take-end ps p)) h;
-    proof = p;
-    after = after;
-    there = (λ i. slice_get (ps ++ p ∷ []) (e i)) ∙ get-end ps p;
-    so_far = right;
-    not_closed = λ k. false-not (is.1 k);
-  }
+  proved-more file ps p after None false n e h right is = (
+    subst (AllByRecursion (IsProvedOver J file)) (sym ((λ i. take (e i) (ps ++ p ∷ [])) ∙ take-end ps p)) h,
+    subst (λ (o : Option (ProofOf L.Line)). IsSomeAnd o (IsOpenOver J file)) (sym ((λ i. slice_get (ps ++ p ∷ []) (e i)) ∙ get-end ps p)) (after, right, λ k. false-not (is.1 k)),
+  )
     where
       false-not : false ≡ true → ⊥
       false-not x = cc
@@ -287,7 +281,7 @@ module _ {L : LineGrammar} (J : LineRules L) where
     }
 
     bad-text : (n : ℕ) (ps : List (ProofOf L.Line)) → AllByRecursion (IsRightOver J) ps → IsBadAfter L (version_of known) text n ps → IsBadTextOver J (version_of known) text n
-    bad-text n ps right h = record { bad = h.bad; right = λ qs read. first-right-over J qs ps (begins-first qs ps (h.no_more qs read)) right }
+    bad-text n ps right h = record { bad = h.bad; right = λ qs read. first-right J qs ps (begins-first qs ps (h.no_more qs read)) right }
 
     -- the next group is wrong
     group-wrong : (new : Progress) (v : Verdict) → NextGroup L t.groups r new (Err v) → (file : List ℕ) → IsReadable file → SaysOver J (version_of known) file text v
@@ -414,9 +408,8 @@ module _ {L : LineGrammar} (J : LineRules L) where
       at None so = record {
         proofs = j.proofs;
         spelled = j.spelled;
-        readable = readable;
-        proved = so;
+        accepted = record { readable = readable; each = so };
         groups = j.groups;
         count = j.lines;
       }
-      at (Some k) so = (readable, record { proofs = j.proofs; spelled = j.spelled; right = j.right; first = so })
+      at (Some k) so = (readable, record { proofs = j.proofs; spelled = j.spelled; right = j.right; before = so.0; here = so.1 })

@@ -1,6 +1,6 @@
--- What each rule keeps, the lines of a proof keep.
+-- What each rule keeps, each line of a proof keeps.
 use Rattle.std.proofs.Common.{◌≡◌, ℕ, zero, suc, ◌<◌, ◌^◌, Bool, true, false, cond, Option, Some, None, List, [], ◌∷◌, map, refl, sym, subst, arith}
-use Rattle.std.specs.Prelude.{fold, Contains, IsSomeAnd, ◌==◌}
+use Rattle.std.specs.Prelude.{Contains, IsSomeAnd, ◌==◌}
 use Rattle.std.proofs.lemmas.Bool.{eqb-true}
 use Rattle.word_terms.specs.Substitution.{Substitution}
 use Rattle.tailrec_lang.specs.Tree.{GroupTree}
@@ -10,7 +10,7 @@ use Rattle.triple_kernel.specs.declared.form.Form.{Form}
 use Rattle.instr_axioms.specs.Axiom.{axiom_of}
 use Rattle.loop_rule.specs.Rule.{IsClosedBy}
 use Rattle.proof_text.specs.Line.{RuleTree, Axiom, Inst, Frame, Compose, ExtendCode, Strengthen, Weaken, Discharge, UseExit, LineTree, States, Loop, Forget, Further}
-use Rattle.verdicts.specs.Instance.{AreInstancesBy, FurtherRule, History, InstanceBy, Meets, after_line, no_lines, put_for}
+use Rattle.verdicts.specs.Instance.{FurtherRule, History, InstanceBy, Meets, after_line, no_lines, put_for}
 use Rattle.frame_compose.specs.Rules.{IsFramed, IsExtended, IsComposed}
 use Rattle.verdicts.specs.Addresses.{AllHave, ExitsHave}
 
@@ -86,10 +86,6 @@ module _ (P : TripleTree → Type 0) (F : FurtherRule) (g : GroupTree) (kept : R
     theorems = λ k q there. stated (k == h.next) (h.theorem k) t q (from h all p (λ p. F p t) t (λ p v i. kept.further p t i v) is) (all.theorems k q) there;
     closed = all.closed;
   }
-
-  pub lines-have : (h : History) → AllHave P g h → (ls : List LineTree) → AreInstancesBy F g h ls → AllHave P g (fold after_line h ls)
-  lines-have h all [] are = all
-  lines-have h all (l ∷ ls) are = lines-have (after_line h l) (line-has h all l are.0) ls are.1
 
 pub no_lines-have : (P : TripleTree → Type 0) (g : GroupTree) → AllHave P g no_lines
 no_lines-have P g = record { theorems = λ k t e. absurd (cc); closed = λ d e. absurd (cc) }

@@ -1,6 +1,6 @@
 -- Lines that are right one after the other leave valid triples behind them.
 use Rattle.std.proofs.Common.{◌≡◌, ◌≤◌, ℕ, zero, suc, Bool, true, false, cond, Option, Some, None, List, [], ◌∷◌, map, refl, sym, subst, arith}
-use Rattle.std.specs.Prelude.{fold, Contains, IsSomeAnd, ◌==◌}
+use Rattle.std.specs.Prelude.{Contains, IsSomeAnd, ◌==◌}
 use Rattle.std.specs.List.{AllByRecursion}
 use Rattle.std.proofs.lemmas.Bool.{eqb-true}
 use Rattle.tailrec_lang.specs.Tree.{GroupTree, listed_def}
@@ -18,7 +18,7 @@ use Rattle.instr_axioms.proofs.AxiomLemmas.{axiom_valid}
 use Rattle.loop_rule.specs.Rule.{IsClosed}
 use Rattle.loop_rule.proofs.LoopLemmas.{closed-valid}
 use Rattle.proof_text.specs.Line.{RuleTree, Axiom, Inst, Frame, Compose, ExtendCode, Strengthen, Weaken, Discharge, UseExit, LineTree, States, Loop, Forget, Further, ProofTree}
-use Rattle.verdicts.specs.Instance.{History, no_lines, after_line, with_theorem, put_for, Meets, FurtherRule, KeepsValid, InstanceBy, AreInstancesBy, no_rule}
+use Rattle.verdicts.specs.Instance.{History, no_lines, after_line, with_theorem, put_for, Meets, FurtherRule, KeepsValid, InstanceBy, no_rule}
 use Rattle.frame_compose.specs.Rules.{IsFramed, IsExtended, IsComposed}
 use Rattle.verdicts.specs.Further.{further_of}
 use Rattle.verdicts.specs.Sound.{Sound}
@@ -31,6 +31,7 @@ use Rattle.frame_compose.proofs.FrameLemmas.{valid_frame}
 use Rattle.frame_compose.proofs.ExtendLemmas.{valid_extension}
 use Rattle.frame_compose.proofs.ComposeLemmas.{valid_composition}
 use Rattle.verdicts.proofs.HeadlineLemmas.{function-right}
+use Rattle.verdicts.proofs.WholeLemmas.{lines-keep}
 
 -- a premise that a line cites is valid
 cited : {P Q : TripleTree → Type 0} {R : Type 0} (o : Option TripleTree) → ((p : TripleTree) → o ≡ Some p → P p) → ((p : TripleTree) → P p → Q p → R) → IsSomeAnd o Q → R
@@ -93,10 +94,6 @@ module _ (g : GroupTree) (well_formed : IsWellFormed g) where
     }
     line-sound h sound (Further p stated) is = theorem-sound h sound stated (from h sound p (λ q. F q stated) stated (λ q v i. keeps q stated i v) is)
 
-    pub lines-sound : (h : History) → Sound g h → (ls : List LineTree) → AreInstancesBy F g h ls → Sound g (fold after_line h ls)
-    lines-sound h sound [] are = sound
-    lines-sound h sound (l ∷ ls) are = lines-sound (after_line h l) (line-sound h sound l are.0) ls are.1
-
 -- no triple is stated by no rule
 pub no_rule-keeps : (g : GroupTree) → KeepsValid no_rule g
 no_rule-keeps g p t is valid = absurd is
@@ -130,9 +127,9 @@ accepted-right-by ver few F keeps file ps limits accepts g c =
     let p = found.0 in
     let is = found.1 in
     let limit = subst (IsGroupIn ver) (sym found.2) (each-group ver (groups_of ps) g limits c) in
-    let sound = lines-sound p.group is.well_formed F (keeps p.group) no_lines (no_lines-sound p.group) p.lines is.lines in
+    let sound = lines-keep F p.group (Sound p.group) (line-sound p.group is.1.well_formed F (keeps p.group)) [] no_lines (no_lines-sound p.group) p.lines is.0 is.1.lines in
     subst (IsRight file) found.2
-    (function-right file p.group is.well_formed limit.registers (omega (arith, few, limit.memories.1)) is.proved.code (sound.closed (listed_def p.group) is.proved.closed))
+    (function-right file p.group is.1.well_formed limit.registers (omega (arith, few, limit.memories.1)) is.2.code (sound.closed (listed_def p.group) is.2.closed))
 
 pub accepted-right : (file : List ℕ) (ps : List ProofTree) → AreGroups (groups_of ps) → Accepts file ps → Headline file (groups_of ps)
 accepted-right = accepted-right-by version_1 (omega arith) no_rule no_rule-keeps

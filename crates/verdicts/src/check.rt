@@ -12,7 +12,7 @@ ghost use Rattle.group_text.specs.Limits.{IsGroupIn, def_limit};
 ghost use Rattle.group_text.specs.Version.{version_of};
 ghost use Rattle.proof_text.specs.FirstProofs.{HasGivenOver};
 ghost use Rattle.verdicts.specs.Instance.{no_lines};
-ghost use Rattle.verdicts.specs.LineRules.{SaysOver};
+ghost use Rattle.verdicts.specs.Verdicts.{SaysOver};
 ghost use Rattle.verdicts.specs.inner.Checking.{IsCodeOf, LineJudged, LinesJudged, MayFollow, NextGroup, NextLine, ProofJudged, StandBehind, TextJudged, verdict_of, with_group};
 ghost use Rattle.verdicts.specs.inner.Sourced.{pulled_by, stops_outside, verdicts};
 ghost use Rattle.verdicts.specs.Pulled.{as_verdict, is_outside};

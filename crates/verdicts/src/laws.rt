@@ -1,7 +1,7 @@
 //! Laws of proofs. These functions do nothing: their contracts are the laws. Each speaks of the
 //! definitions alone.
 
-ghost use Rattle.std.specs.Prelude.{ℕ, ◌≤◌, ◌↔◌, List};
+ghost use Rattle.std.specs.Prelude.{ℕ, ◌≤◌, List};
 ghost use Rattle.elf_image.specs.Image.{code_of_file};
 ghost use Rattle.tailrec_lang.specs.Tree.{GroupTree, listed_def};
 ghost use Rattle.tailrec_lang.specs.WellFormed.{IsWellFormed};
@@ -9,7 +9,6 @@ ghost use Rattle.rv_words.specs.Ranges.{range_bytes};
 ghost use Rattle.sep_assert.specs.Code.{IsWithin};
 ghost use Rattle.tailrec_lang.specs.Registers.{AreRegistersFrom};
 ghost use Rattle.group_text.specs.Limits.{AreGroups};
-ghost use Rattle.group_text.specs.Version.{Version};
 ghost use Rattle.group_text.specs.declared.version.Version.{Version as Known};
 ghost use Rattle.loop_rule.specs.Rule.{IsClosed};
 ghost use Rattle.proof_text.specs.Line.{LineTree, ProofTree};
@@ -19,9 +18,6 @@ ghost use Rattle.verdicts.specs.Instance.{History, InstanceBy, after_line};
 ghost use Rattle.verdicts.specs.Accepts.{Accepts};
 ghost use Rattle.claims.specs.Headline.{IsRight, Headline};
 ghost use Rattle.verdicts.specs.Sound.{Sound};
-ghost use Rattle.verdicts.specs.declared.verdict.Verdict.{Verdict};
-ghost use Rattle.verdicts.specs.LineRules.{SaysOver, whole_rules};
-ghost use Rattle.verdicts.specs.Verdicts.{SaysBy};
 ghost use Rattle.frame_compose.specs.Rules.{IsExchanged};
 ghost use Rattle.verdicts.specs.Addresses.{AllHave, ExitsHave, KeepsAddresses};
 
@@ -52,14 +48,6 @@ pub fn law_of_lines()
 pub fn law_of_proofs()
     ensures { (file : List ℕ) (ps : List ProofTree)
         → AreGroups (groups_of ps) → Accepts file ps → Headline file (groups_of ps) }
-{}
-
-/// Of lines that state whole triples a verdict says by the rules of lines exactly what it says by
-/// the further rule.
-pub fn law_of_whole_lines()
-    ensures { (k : Known) (v : Version) (file text : List ℕ) (verdict : Verdict)
-        → SaysBy (further_of k) v file text verdict
-        ↔ SaysOver (whole_rules (further_of k)) v file text verdict }
 {}
 
 /// The second law: a line that is right keeps that theorems, and the exits of closed definitions,

@@ -26,8 +26,6 @@ mod line_judge;
 mod verdict;
 
 pub use check::{check_source, judge_group};
-pub use laws::{
-    law_of_addresses, law_of_exits, law_of_lines, law_of_proofs, law_of_regions, law_of_whole_lines,
-};
+pub use laws::{law_of_addresses, law_of_exits, law_of_lines, law_of_proofs, law_of_regions};
 pub use line_judge::{JudgeLines, JudgeProofs, Judged, RuledLines, RuledReader};
 pub use verdict::{Pulled, Verdict};

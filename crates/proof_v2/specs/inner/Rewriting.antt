@@ -1,6 +1,6 @@
 -- How a text in which all lines are right becomes one of version 2, group by group.
 use Rattle.std.specs.Prelude.{◌≡◌, ◌<◌, ◌≤◌, ℕ, List, [], ◌∷◌, ◌++◌, Option, Some, None, length}
-use Rattle.std.specs.List.{AllZip}
+use Rattle.std.specs.List.{AllByRecursion, AllZip}
 use Rattle.mc_text.specs.Tokens.{spell}
 use Rattle.mc_text.specs.declared.token.Before.TheVariants.{Start}
 use Rattle.sep_assert.specs.declared.assertion.Assertion.{Assertion}
@@ -18,7 +18,8 @@ use Rattle.proof_text.specs.Proofs.{bare, line_texts_by, proof_texts_by}
 use Rattle.proof_text.specs.FirstProofs.{HasGiven, MayOpen, Progress, ProofEnds, with_line}
 use Rattle.proof_text.specs.declared.line.SpelledLine.{SpelledLine}
 use Rattle.verdicts.specs.Instance.{History, after_lines, no_rule}
-use Rattle.verdicts.specs.Verdicts.{AreRightSoFar, IsTextOf}
+use Rattle.verdicts.specs.LineRules.{IsRightOver, whole_rules}
+use Rattle.verdicts.specs.Verdicts.{IsTextOf}
 use Rattle.short_text.specs.declared.short.Short.{Short}
 use Rattle.short_text.specs.ShortProofs.{AreShortProofs, ShortProof, short_line_tokens, short_lines, text_of_short_proofs}
 use Rattle.short_text.specs.ShortSpelling.{short_tokens}
@@ -33,7 +34,7 @@ use Rattle.proof_v2.specs.inner.Migrating.{AreMigrated}
 pub record IsRightText (text : List ℕ) : Type 0 where
   pub proofs : List ProofTree
   pub spelled : IsTextOf text proofs
-  pub right : AreRightSoFar no_rule proofs
+  pub right : AllByRecursion (IsRightOver (whole_rules no_rule)) proofs
 
 -- .. and these become the other text
 pub record BecomesText (text more : List ℕ) : Type 0 where

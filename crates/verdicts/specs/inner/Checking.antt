@@ -1,5 +1,5 @@
 -- What was judged of a text, line by line and group by group, whatever lines stand behind its groups. J are the rules of the lines.
-use Rattle.std.specs.Prelude.{◌≡◌, ◌↔◌, ℕ, ◌+◌, Bool, true, false, IsTrue, IfSome, List, [], ◌∷◌, ◌++◌, length, Option, Some, None, Result, Ok, Err}
+use Rattle.std.specs.Prelude.{◌≡◌, ◌↔◌, ℕ, ◌+◌, Bool, true, false, IsTrue, IfSome, IsSomeAnd, List, [], ◌∷◌, ◌++◌, length, slice_get, take, Option, Some, None, Result, Ok, Err}
 use Rattle.std.specs.List.{AllByRecursion}
 use Rattle.rv_words.specs.declared.range.Range.{Range}
 use Rattle.rv_words.specs.Ranges.{range_bytes}
@@ -21,7 +21,8 @@ use Rattle.verdicts.specs.declared.check.Tally.{Tally}
 use Rattle.verdicts.specs.declared.verdict.Verdict.{Verdict}
 use Rattle.verdicts.specs.declared.verdict.Verdict.TheVariants as verdict
 use Rattle.verdicts.specs.Instance.{History, no_lines}
-use Rattle.verdicts.specs.LineRules.{AllLeave, IsClosedFor, IsFirstNotProvedOver, IsProvedOver, IsRightOver, IsTextOver, LineRules, counted_in, count_over}
+use Rattle.verdicts.specs.LineRules.{AllLeave, IsClosedFor, IsProvedOver, IsRightOver, LineRules, counted_in, count_over}
+use Rattle.verdicts.specs.Verdicts.{IsOpenOver, IsTextOver}
 
 abbrev pub proof_of : {L : Type 0} → GroupTree → List L → ProofOf L
 proof_of g lines = record { group = g; lines = lines }
@@ -142,7 +143,7 @@ NextGroup L n old new (Err (verdict.NotProved g)) = ⊥
 -- which of them is the first that isn't proved, if there is one
 abbrev pub ProvedSo : {L : LineGrammar} → LineRules L → List ℕ → List (ProofOf L.Line) → Option ℕ → Type 0
 ProvedSo J file ps None = AllByRecursion (IsProvedOver J file) ps
-ProvedSo J file ps (Some k) = IsFirstNotProvedOver J file ps k
+ProvedSo J file ps (Some k) = AllByRecursion (IsProvedOver J file) (take k ps) × IsSomeAnd (slice_get ps k) (IsOpenOver J file)
 
 -- the first group that isn't proved, with one group more
 abbrev pub first_not_proved : Option ℕ → Bool → ℕ → Option ℕ

@@ -1,5 +1,5 @@
 use Rattle.verdicts.specs.Further.{further_of}
-use Rattle.verdicts.proofs.CheckLemmas.{accepted-headline, verdict-comes}
+use Rattle.verdicts.proofs.CheckLemmas.{accepted-headline, whole-comes}
 use Rattle.verdicts.proofs.SoundLemmas.{further-keeps}
 use Rattle.checker.proofs.check.check_image.Goals as goal
 
@@ -9,4 +9,4 @@ returns-clause-headline c elf readable is = λ few.
 
 pub returns-clause-exact : goal.returns-clause-exact
 returns-clause-exact c elf readable is =
-    verdict-comes (further_of c.args.version) c.args.version elf c.args.proof.now c.judge_image.result (c.judge_image.ensures.verdict elf readable is)
+    whole-comes (further_of c.args.version) c.args.version elf c.args.proof.now c.judge_image.result (c.judge_image.ensures.verdict elf readable is)

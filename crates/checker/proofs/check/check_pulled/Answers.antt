@@ -6,7 +6,7 @@ use Rattle.proof_text.proofs.SourceAnswers.{told_all, told_held}
 use Rattle.verdicts.specs.Further.{further_of}
 use Rattle.verdicts.specs.Pulled.{as_verdict}
 use Rattle.verdicts.specs.Verdicts.{SaysBy}
-use Rattle.verdicts.proofs.CheckLemmas.{accepted-headline, verdict-comes}
+use Rattle.verdicts.proofs.CheckLemmas.{accepted-headline, whole-comes}
 use Rattle.verdicts.proofs.SoundLemmas.{further-keeps}
 use Rattle.verdicts.proofs.SourceLemmas.{held-so, verdict-held}
 use Rattle.checker.proofs.check.check_pulled.Goals as goal
@@ -32,7 +32,7 @@ pub returns-clause-exact : goal.returns-clause-exact
 returns-clause-exact g c elf readable is =
     let F = further_of c.args.version in
     held-so (g.S.Shelf.contents c.args.shelf.now) c.args.pull.now.rows.lines.name c.judge_source.result (λ v file. SaysBy F (version_of c.args.version) elf (held_text c.args.pull.now file) v) _
-    (λ w file says v h. verdict-comes F c.args.version elf (held_text c.args.pull.now file) w says v h)
+    (λ w file says v h. whole-comes F c.args.version elf (held_text c.args.pull.now file) w says v h)
     (returns-clause-verdict g c elf readable is)
 
 pub returns-clause-shelf : goal.returns-clause-shelf

@@ -6,7 +6,6 @@ use Rattle.verdicts.specs.Further.{further_of}
 use Rattle.verdicts.specs.Pulled.{as_verdict}
 use Rattle.verdicts.specs.Verdicts.{SaysBy}
 use Rattle.verdicts.proofs.Told.{some-two}
-use Rattle.verdicts.proofs.WholeLemmas.{whole-says}
 use Rattle.checker.proofs.check.judge_source.Goals as goal
 
 pub check_source-requires-clause-laws : goal.check_source-requires-clause-laws
@@ -16,5 +15,5 @@ pub returns-clause-verdict : goal.returns-clause-verdict
 returns-clause-verdict g c elf readable is =
     let v = as_verdict c.check_source.result in
     some-two (g.P.ProofSource.told c.args.source.now c.args.from.now) _ _ _
-    (λ r says of. subst (λ (k : Known). SaysBy (further_of c.args.version) (version_of k) elf r.text v) (of ∙ c.requires.version) (whole-says (further_of c.args.version) (version_of r.version) elf r.text v says))
+    (λ r says of. subst (λ (k : Known). SaysBy (further_of c.args.version) (version_of k) elf r.text v) (of ∙ c.requires.version) says)
     (c.check_source.ensures.verdict elf readable is) (g.met.P.ProofSource.told_version c.args.source.now c.args.from.now)

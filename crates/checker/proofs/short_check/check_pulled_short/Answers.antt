@@ -4,7 +4,7 @@ use Rattle.proof_text.specs.FirstProofs.{HasGivenOver}
 use Rattle.proof_text.specs.Pulling.{held_text, progress_in}
 use Rattle.proof_text.proofs.SourceAnswers.{told_all, told_held}
 use Rattle.short_text.specs.ShortProofs.{short_lines}
-use Rattle.verdicts.specs.LineRules.{SaysOver}
+use Rattle.verdicts.specs.Verdicts.{SaysOver}
 use Rattle.verdicts.specs.Pulled.{as_verdict}
 use Rattle.verdicts.proofs.SourceLemmas.{held-so, verdict-held}
 use Rattle.checker.specs.ShortRules.{short_rules}

@@ -3,9 +3,8 @@ use Rattle.mc_shelf.specs.Lines.{LinesState}
 use Rattle.mc_shelf.specs.inner.OnlyReads.{OnlyReads}
 use Rattle.group_text.specs.Version.{version_2, version_of}
 use Rattle.verdicts.specs.Further.{further_of}
-use Rattle.verdicts.specs.LineRules.{SaysOver}
 use Rattle.verdicts.specs.Pulled.{is_outside}
-use Rattle.verdicts.specs.Verdicts.{SaysBy}
+use Rattle.verdicts.specs.Verdicts.{SaysBy, SaysOver}
 use Rattle.verdicts.proofs.SourceLemmas.{held-so}
 use Rattle.checker.specs.ShortRules.{short_rules}
 use Rattle.proof_v2.specs.AnyVerdicts.{SaysIn}

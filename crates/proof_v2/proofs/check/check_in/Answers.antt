@@ -1,6 +1,6 @@
 use Rattle.std.proofs.Common.{List, ℕ, true≢false, subst, sym, ◌∙◌}
 use Rattle.group_text.specs.Version.{version_2}
-use Rattle.verdicts.specs.LineRules.{SaysOver}
+use Rattle.verdicts.specs.Verdicts.{SaysOver}
 use Rattle.checker.specs.ShortRules.{short_rules}
 use Rattle.proof_v2.proofs.AnyVerdicts.{says-short, says-whole}
 use Rattle.proof_v2.proofs.check.check_in.Goals as goal

@@ -3,8 +3,7 @@ use Rattle.std.proofs.lemmas.Result.{IfErr-weaker, IfOk-weaker}
 use Rattle.verdicts.specs.declared.verdict.Verdict.{Verdict}
 use Rattle.verdicts.specs.declared.verdict.Verdict.TheVariants as verdict
 use Rattle.group_text.specs.Version.{version_2}
-use Rattle.verdicts.specs.LineRules.{IsAcceptedOver}
-use Rattle.verdicts.specs.Verdicts.{IsAcceptance, Says}
+use Rattle.verdicts.specs.Verdicts.{IsAcceptance, IsAcceptedOver, Says}
 use Rattle.checker.specs.ShortRules.{short_rules}
 use Rattle.proof_v2.specs.MigratedText.{IsMigratedText}
 use Rattle.proof_v2.specs.inner.Rewriting.{BecomesText}

@@ -1,7 +1,7 @@
 use Rattle.std.proofs.Common.{sym, subst}
 use Rattle.group_text.specs.Version.{version_of}
 use Rattle.verdicts.specs.declared.verdict.Verdict.{Verdict}
-use Rattle.verdicts.specs.LineRules.{SaysOver}
+use Rattle.verdicts.specs.Verdicts.{SaysOver}
 use Rattle.verdicts.proofs.JudgedLemmas.{text-verdict}
 use Rattle.verdicts.proofs.Told.{some-so}
 use Rattle.verdicts.proofs.check.check_source.Goals as goal
