@@ -296,11 +296,17 @@ def growing_code(n):
     return words([FENCE]), short_text([], lines, words([FENCE] * n).hex()).replace(f"{jump(0):#x}", f"{FENCE:#x}"), CHECK
 
 
-@family(500)
+@family(16_000)
 def extended_facts(n):
     """A theorem of n facts, and n lines that state it again."""
     lines = [f"weaken 0 facts {each(n, '(is t{0} t{0})').replace('t0', f't{n}')} post (t0 ;)", *["extend 1 code all"] * n]
     return TURN, short_text([f"{i:#x}" for i in range(n)], lines), CHECK
+
+
+@family(1_000)
+def extended_memories(n):
+    """A theorem of n memories, and n lines that state it again."""
+    return TURN, short_text(["m0"], [f"frame 0 ;{' t1' * n}", *["extend 1 code all"] * n]), CHECK
 
 
 @family(1 << 14, "NUMBER")

@@ -1,5 +1,7 @@
 """What `check` answers: the status and the line."""
 
+from collections import Counter
+
 from .definitions import first_ill_formed
 from .elf import ElfFile, Unreadable
 from .grammar import GroupReader, MEMORIES, TermCursor
@@ -29,6 +31,7 @@ class Bench:
         self.theorems = []
         self.closed = set()
         self.facts = 0
+        self.sharing = Counter()
 
     def has(self, number):
         """Whether a theorem is there, and wasn't forgotten."""
@@ -38,7 +41,7 @@ class Bench:
         """One more theorem; False where there is none."""
         if triple is None:
             return False
-        self.facts += len(triple.facts)
+        self.count(triple, 1)
         if self.facts > MOST_FACTS:
             raise NoMemory
         self.theorems.append(triple)
@@ -48,9 +51,16 @@ class Bench:
         """The theorem is no longer there; False where it wasn't."""
         if not self.has(number):
             return False
-        self.facts -= len(self.theorems[number].facts)
+        self.count(self.theorems[number], -1)
         self.theorems[number] = None
         return True
+
+    def count(self, triple, more):
+        """One theorem more or less has these facts, which count once: while one has them."""
+        before = self.sharing[id(triple.facts)]
+        self.sharing[id(triple.facts)] = before + more
+        if not before or not before + more:
+            self.facts += more * len(triple.facts)
 
     def is_usable(self, number, way):
         """Whether a definition is closed and has such an exit."""

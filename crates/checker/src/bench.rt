@@ -36,7 +36,7 @@ use crate::trees::triple_from;
 use group_text::Version;
 use held_definitions::{is_closed_by, theorem};
 use held_instances::ImageTable;
-use held_terms::{Held, SharedCode, copy_to_share, put_triple};
+use held_terms::{Held, Shared, copy_to_share, put_triple};
 use proof_text::{Line, Rule};
 use rv_words::{List, NoMemory};
 use sep_assert::same_code;
@@ -49,9 +49,11 @@ use tailrec_lang::Group;
 use term_arena::{Arena, Node, Steps};
 use triple_kernel::{RuleFault, Thm, Triple};
 use verdicts::law_of_lines;
+use word_terms::Code;
 
-/// How many facts the theorems that are kept may have together: more than a text of version 1
-/// within the limit of a file can state. In version 2 two lines can double the facts of a theorem.
+/// How many facts the theorems that are kept may have together, where those that theorems share
+/// count once: more than a text of version 1 within the limit of a file can state. In version 2 two
+/// lines can double the facts of a theorem.
 const FACTS_LIMIT: u64 = 1 << 25;
 
 /// Judges the lines of a group's proof, one after the other. It keeps their terms once each, room
@@ -66,10 +68,10 @@ pub struct Bench<'g> {
     images: ImageTable,
     held: BTreeMap<u64, Held>,
     next: u64,
-    /// How many facts the theorems that are kept have.
+    /// How many facts the theorems that are kept have, where those that theorems share count once.
     facts: u64,
     closed: List<bool>,
-    code: SharedCode,
+    code: Shared<Code>,
     /// Theorems that have the group's own code: those that a line states so, as far as there is
     /// room to keep it.
     marked: BTreeSet<u64>,
@@ -705,7 +707,7 @@ impl<'g> Bench<'g> {
         let Some(next) = self.next.checked_add(1) else {
             return Err(NoMemory);
         };
-        let facts = self.facts.saturating_add(h.facts.len() as u64);
+        let facts = self.facts.saturating_add(own_facts(&h));
         if facts > FACTS_LIMIT {
             return Err(NoMemory);
         }
@@ -785,7 +787,7 @@ impl<'g> Bench<'g> {
     fn with_own_code(&self, h: Held) -> Result<Held, NoMemory>
         ensures { IfOk result (λ shared. shared ≡ h) }
     {
-        if same_code(h.code.as_code(), self.code.as_code()) {
+        if same_code(h.code.as_ref(), self.code.as_ref()) {
             with_code(h, &self.code)
         } else {
             Ok(h)
@@ -890,11 +892,20 @@ impl<'g> Bench<'g> {
     }
 }
 
-/// How many facts a theorem has, if there is one.
+/// How many facts a theorem has that it shares with no other, if there is one.
 fn count_facts(theorem: &Option<Held>) -> u64 {
     match theorem {
-        Some(h) => h.facts.len() as u64,
+        Some(h) => own_facts(h),
         None => 0,
+    }
+}
+
+/// How many facts a theorem has that it shares with no other.
+fn own_facts(h: &Held) -> u64 {
+    if h.facts.is_shared() {
+        0
+    } else {
+        h.facts.len() as u64
     }
 }
 
@@ -916,7 +927,7 @@ fn put_over<L: Ledger>(
     arena: &mut Arena,
     stated: &Triple,
     own: bool,
-    code: &SharedCode,
+    code: &Shared<Code>,
     steps: &mut Steps<L>,
 ) -> Result<Held, NoMemory>
     ensures put { IfOk result (λ h.
@@ -944,7 +955,7 @@ fn mark(marked: &mut BTreeSet<u64>, number: u64, own: bool)
 }
 
 /// The same triple, with its code in another place.
-fn with_code(h: Held, code: &SharedCode) -> Result<Held, NoMemory>
+fn with_code(h: Held, code: &Shared<Code>) -> Result<Held, NoMemory>
     requires { code.now.ranges ≡ h.code.ranges }
     ensures { IfOk result (λ shared. shared ≡ h) }
 {
@@ -952,7 +963,7 @@ fn with_code(h: Held, code: &SharedCode) -> Result<Held, NoMemory>
 }
 
 /// The triple over that code, which it shares.
-fn over_code(h: Held, code: &SharedCode) -> Result<Held, NoMemory>
+fn over_code(h: Held, code: &Shared<Code>) -> Result<Held, NoMemory>
     ensures { IfOk result (λ over. over ≡ held_over code.now h) }
 {
     let code = code.share()?;

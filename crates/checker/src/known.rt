@@ -71,7 +71,7 @@ pub(crate) fn has_code(known: bool, p: &Held, stated: &Held) -> bool
     requires { IsTrue known → p.now.code.ranges ≡ stated.now.code.ranges }
     ensures { IsTrue result ↔ (p.now.code.ranges ≡ stated.now.code.ranges) }
 {
-    known || same_code(p.code.as_code(), stated.code.as_code())
+    known || same_code(p.code.as_ref(), stated.code.as_ref())
 }
 
 /// Whether the codes of two theorems agree and are that of the triple together. Where the first
@@ -93,7 +93,7 @@ pub(crate) fn have_union(
     if first_known {
         has_code_within(second_known, q, stated)
     } else {
-        is_union(p.code.as_code(), q.code.as_code(), stated.code.as_code())
+        is_union(p.code.as_ref(), q.code.as_ref(), stated.code.as_ref())
     }
 }
 
@@ -102,7 +102,7 @@ pub(crate) fn has_own_code(g: &Group, own: bool, stated: &Held) -> bool
     requires { IsTrue own → stated.now.code.ranges ≡ g.now.code.ranges }
     ensures { IsTrue result ↔ (stated.now.code.ranges ≡ g.now.code.ranges) }
 {
-    own || same_code(stated.code.as_code(), &g.code)
+    own || same_code(stated.code.as_ref(), &g.code)
 }
 
 /// Whether the triple that the line states, where it is right, is known to have the group's own

@@ -77,7 +77,7 @@ pub(crate) fn meets<L: Ledger>(
 {
     match rule {
         Rule::Axiom(addr, word, form) => {
-            by_axiom(alloc, *addr, *word, *form, stated, put.code.as_code())
+            by_axiom(alloc, *addr, *word, *form, stated, put.code.as_ref())
         }
         Rule::Inst(p, terms) => {
             let known = is_known(g, held, marked, own, *p, put);

@@ -29,7 +29,7 @@ use derived_triples::{
     axiom, composed, discharged, exit, extended, framed, put_in, strengthened, weakened,
 };
 use held_instances::ImageTable;
-use held_terms::{Held, HeldFact, HeldSide, SharedCode, copy_to_share};
+use held_terms::{Held, HeldFact, HeldSide, Shared, copy_to_share};
 use rv_words::{List, NoMemory};
 use short_text::Short;
 use std::alloc::Global;
@@ -45,7 +45,7 @@ use word_terms::Code;
 pub(crate) fn stated_by<L: Ledger>(
     alloc: Global,
     g: &Group,
-    code: &SharedCode,
+    code: &Shared<Code>,
     arena: &mut Arena,
     images: &mut ImageTable,
     held: &BTreeMap<u64, Held>,
@@ -136,7 +136,7 @@ fn by_inst<L: Ledger>(
 fn by_use_exit<L: Ledger>(
     alloc: Global,
     g: &Group,
-    code: &SharedCode,
+    code: &Shared<Code>,
     arena: &mut Arena,
     closed: &[bool],
     def: u32,
@@ -186,7 +186,7 @@ fn by_frame(
 fn by_extend_code(
     alloc: Global,
     g: &Group,
-    code: &SharedCode,
+    code: &Shared<Code>,
     arena: &Arena,
     held: &BTreeMap<u64, Held>,
     marked: &BTreeSet<u64>,
@@ -213,7 +213,7 @@ fn by_extend_code(
 fn by_extend_to_own(
     alloc: Global,
     g: &Group,
-    code: &SharedCode,
+    code: &Shared<Code>,
     arena: &Arena,
     held: &BTreeMap<u64, Held>,
     marked: &BTreeSet<u64>,

@@ -33,7 +33,7 @@ pub(crate) fn triple_from<L: Ledger>(
     let facts = facts_from(alloc, arena, h.facts.as_slice(), steps);
     let pre = side_from(alloc, arena, &h.pre, steps);
     let post = side_from(alloc, arena, &h.post, steps);
-    let code = copy_code(alloc, h.code.as_code());
+    let code = copy_code(alloc, h.code.as_ref());
     Ok(Triple {
         facts: facts?,
         pre: pre?,

@@ -1,16 +1,16 @@
 -- Triples made of given parts, and facts of two lists.
-use Rattle.std.proofs.Common.{◌≡◌, ℕ, zero, suc, ◌+◌, ◌<◌, Some, List, [], ◌∷◌, ◌++◌, length, drop, get_or, map, take, refl, sym, ap, ◌∙◌, subst, arith, Contains, inl, inr}
+use Rattle.std.proofs.Common.{◌≡◌, ℕ, zero, suc, ◌+◌, ◌<◌, None, Some, List, [], ◌∷◌, ◌++◌, length, drop, get_or, map, take, refl, sym, ap, ◌∙◌, subst, arith, Contains, inl, inr}
 use Rattle.std.specs.List.{AllByRecursion}
 use Rattle.std.proofs.Math.Seq.{drop-append_seam}
 use Rattle.std.proofs.lemmas.List.{map-append}
-use Rattle.std.proofs.lemmas.List.Elements.{All-push}
+use Rattle.std.proofs.lemmas.List.Elements.{All-append, All-cons, All-nil}
 use Rattle.tailrec_lang.proofs.Lists.{map-take_more}
 use Rattle.rv_words.specs.Bytes.{over}
 use Rattle.rv_words.specs.declared.range.Range.{Range}
 use Rattle.rv_words.specs.Ranges.{range_bytes}
-use Rattle.sep_assert.specs.Code.{Agree}
+use Rattle.sep_assert.specs.Code.{Agree, IsWithin}
 use Rattle.triple_kernel.specs.Tree.{FactTree}
-use Rattle.frame_compose.specs.Rules.{IsComposed, AreMissing, rest_after}
+use Rattle.frame_compose.specs.Rules.{IsComposed, IsExtended, AreMissing, rest_after}
 use Rattle.term_arena.specs.declared.node.Node.{Node}
 use Rattle.held_terms.specs.declared.held.Held.{Held}
 use Rattle.held_terms.specs.declared.held.HeldFact.{HeldFact}
@@ -63,22 +63,22 @@ missing-new known (y ∷ xs) more x lacks (inl m) = inl (m.0, missing-new known 
 missing-new known (y ∷ xs) [] x lacks (inr m) = absurd m.1
 missing-new known (y ∷ xs) (z ∷ more) x lacks (inr m) = inr (m.0, (m.1.0, missing-new known xs more x lacks m.1.1))
 
-pub both_first : (first all : List FactTree) → all ≡ first → AreFactsOfBoth first [] all
-both_first first all e = ([], e ∙ append-none first, refl)
-  where
-    append-none : {A : Type 0} (xs : List A) → xs ≡ xs ++ []
-    append-none [] = refl
-    append-none (x ∷ xs) = ap (λ l. x ∷ l) (append-none xs)
+pub both_put : (ns : List Node) (first second more all : List HeldFact) → AreMissing (map (fact_of ns) first) (map (fact_of ns) second) (map (fact_of ns) more) → all ≡ first ++ more
+    → AreFactsOfBoth (map (fact_of ns) first) (map (fact_of ns) second) (map (fact_of ns) all)
+both_put ns first second more all missing e = (map (fact_of ns) more, ap (map (fact_of ns)) e ∙ map-append (fact_of ns) first more, missing)
 
-pub both_known : (first second all : List FactTree) (x : FactTree) → Contains first x → AreFactsOfBoth first second all → AreFactsOfBoth first (second ++ x ∷ []) all
-both_known first second all x k b = (b.0, b.1, missing-known first second b.0 x k b.2)
+-- ---- further code
 
-pub both_new : (first second all : List FactTree) (x : FactTree) → (Contains first x → ⊥) → AreFactsOfBoth first second all → AreFactsOfBoth first (second ++ x ∷ []) (all ++ x ∷ [])
-both_new first second all x lacks b = (b.0 ++ x ∷ [], ap (λ (l : List FactTree). l ++ x ∷ []) b.1 ∙ assoc first b.0 (x ∷ []), missing-new first second b.0 x lacks b.2)
-  where
-    assoc : {A : Type 0} (xs ys zs : List A) → (xs ++ ys) ++ zs ≡ xs ++ (ys ++ zs)
-    assoc [] ys zs = refl
-    assoc (x ∷ xs) ys zs = ap (λ l. x ∷ l) (assoc xs ys zs)
+pub extended_made : (ns : List Node) (p t : Held) (code : List Range) → IsFineHeld ns p → IsOwnCode code → HasParts t p.facts p.pre code p.post → IsWithin (range_bytes p.code.ranges) (range_bytes t.code.ranges)
+    → MadeIf ns (λ u. IsExtended (triple_of ns p) u × (u.code ≡ code)) (Some t)
+extended_made ns p t code fine own parts within = (
+  parts_fine ns t p.facts p.pre code p.post parts (fine_facts ns p fine) (fine_pre ns p fine) own (fine_post ns p fine),
+  (record { facts = sym (ap (map (fact_of ns)) parts.0); pre = sym (ap (side_of ns) parts.1); post = sym (ap (side_of ns) parts.3); code = within }, parts.2),
+)
+
+pub none_extended : (ns : List Node) (p t : Held) (code : List Range) → t.code.ranges ≡ code → (IsWithin (range_bytes p.code.ranges) (range_bytes t.code.ranges) → ⊥)
+    → MadeIf ns (λ u. IsExtended (triple_of ns p) u × (u.code ≡ code)) None
+none_extended ns p t code same never u fits x = never (subst (λ (r : List Range). IsWithin (range_bytes p.code.ranges) (range_bytes r)) (x.1 ∙ sym same) x.0.code)
 
 -- ---- one theorem after another
 
@@ -103,21 +103,27 @@ composed_made ns p q t fp fq middle agree both facts pre code own post =
 -- ---- facts item by item
 
 module _ (ns : List Node) (first second : List HeldFact) (i : ℕ) (f : HeldFact) (low : i < length second) (is : f ≡ get_or second i f) where
-  pub both_more : (old new : List HeldFact) → AddedIfNew ns first f old new → AreFactsOfBoth (map (fact_of ns) first) (map (fact_of ns) (take i second)) (map (fact_of ns) old)
-      → AreFactsOfBoth (map (fact_of ns) first) (map (fact_of ns) (take (i + 1) second)) (map (fact_of ns) new)
-  both_more old new (inl k) b =
-      subst (λ (l : List FactTree). AreFactsOfBoth (map (fact_of ns) first) l (map (fact_of ns) new)) (sym (map-take_more (fact_of ns) second i f low is))
-      (subst (λ (l : List HeldFact). AreFactsOfBoth (map (fact_of ns) first) (map (fact_of ns) (take i second) ++ fact_of ns f ∷ []) (map (fact_of ns) l)) (sym k.1)
-      (both_known (map (fact_of ns) first) (map (fact_of ns) (take i second)) (map (fact_of ns) old) (fact_of ns f) k.0 b))
-  both_more old new (inr k) b =
+  pub missing_more : (old new : List HeldFact) → AddedIfNew ns first f old new → AreMissing (map (fact_of ns) first) (map (fact_of ns) (take i second)) (map (fact_of ns) old)
+      → AreMissing (map (fact_of ns) first) (map (fact_of ns) (take (i + 1) second)) (map (fact_of ns) new)
+  missing_more old new (inl k) m =
+      subst (λ (l : List FactTree). AreMissing (map (fact_of ns) first) l (map (fact_of ns) new)) (sym (map-take_more (fact_of ns) second i f low is))
+      (subst (λ (l : List HeldFact). AreMissing (map (fact_of ns) first) (map (fact_of ns) (take i second) ++ fact_of ns f ∷ []) (map (fact_of ns) l)) (sym k.1)
+      (missing-known (map (fact_of ns) first) (map (fact_of ns) (take i second)) (map (fact_of ns) old) (fact_of ns f) k.0 m))
+  missing_more old new (inr k) m =
       let all : map (fact_of ns) new ≡ map (fact_of ns) old ++ fact_of ns f ∷ [] = ap (map (fact_of ns)) k.1 ∙ map-append (fact_of ns) old (f ∷ []) in
-      subst (λ (l : List FactTree). AreFactsOfBoth (map (fact_of ns) first) l (map (fact_of ns) new)) (sym (map-take_more (fact_of ns) second i f low is))
-      (subst (AreFactsOfBoth (map (fact_of ns) first) (map (fact_of ns) (take i second) ++ fact_of ns f ∷ [])) (sym all)
-      (both_new (map (fact_of ns) first) (map (fact_of ns) (take i second)) (map (fact_of ns) old) (fact_of ns f) k.0 b))
+      subst (λ (l : List FactTree). AreMissing (map (fact_of ns) first) l (map (fact_of ns) new)) (sym (map-take_more (fact_of ns) second i f low is))
+      (subst (AreMissing (map (fact_of ns) first) (map (fact_of ns) (take i second) ++ fact_of ns f ∷ [])) (sym all)
+      (missing-new (map (fact_of ns) first) (map (fact_of ns) (take i second)) (map (fact_of ns) old) (fact_of ns f) k.0 m))
 
-all-push : {A : Type 0} (P : A → Type 0) (xs : List A) (x : A) → AllByRecursion P xs → P x → AllByRecursion P (xs ++ x ∷ [])
-all-push P [] x p q = (q, tt)
-all-push P (y ∷ xs) x p q = (p.0, all-push P xs x p.1 q)
+all-append : {A : Type 0} (P : A → Type 0) (xs ys : List A) → AllByRecursion P xs → AllByRecursion P ys → AllByRecursion P (xs ++ ys)
+all-append P [] ys p q = q
+all-append P (x ∷ xs) ys p q = (p.0, all-append P xs ys p.1 q)
+
+pub fine_both : (ns : List Node) (xs ys : List HeldFact) → AreFineFacts ns xs → AreFineFacts ns ys → AreFineFacts ns (xs ++ ys)
+fine_both ns xs ys p q = (
+  All-append (IsFactAt ns) xs ys p.0 q.0,
+  subst (AllByRecursion IsFact) (sym (map-append (fact_of ns) xs ys)) (all-append IsFact (map (fact_of ns) xs) (map (fact_of ns) ys) p.1 q.1),
+)
 
 each-at : {A T : Type 0} (P : T → Type 0) (f : A → T) (xs : List A) (i : ℕ) (d : A) → i < length xs → AllByRecursion P (map f xs) → P (f (get_or xs i d))
 each-at P f [] i d low all = absurd (omega (arith, low))
@@ -129,7 +135,4 @@ fine_more ns first second old new i f low is (inl k) s o = subst (AreFineFacts n
 fine_more ns first second old new i f low is (inr k) s o =
     let here : IsFact (fact_of ns f) = subst (λ (g : HeldFact). IsFact (fact_of ns g)) (sym is) (each-at IsFact (fact_of ns) second i f low s.1) in
     let there : IsFactAt ns f = subst (IsFactAt ns) (sym is) (s.0 i f low) in
-    subst (AreFineFacts ns) (sym k.1) (
-      All-push (IsFactAt ns) old f o.0 there,
-      subst (AllByRecursion IsFact) (sym (map-append (fact_of ns) old (f ∷ []))) (all-push IsFact (map (fact_of ns) old) (fact_of ns f) o.1 here),
-    )
+    subst (AreFineFacts ns) (sym k.1) (fine_both ns old (f ∷ []) o (All-cons (IsFactAt ns) f [] there (All-nil (IsFactAt ns)), (here, tt)))

@@ -17,7 +17,7 @@ ghost use Rattle.derived_triples.specs.inner.Making.{MadeIf};
 use crate::limits::is_within;
 use held_definitions::exit_held;
 use held_instances::{ImageTable, instance};
-use held_terms::{Held, SharedCode, put_triple};
+use held_terms::{Held, Shared, put_triple};
 use instr_axioms::axiom_triple;
 use rv_words::NoMemory;
 use std::alloc::Global;
@@ -25,6 +25,7 @@ use std::sync::ledger::Ledger;
 use tailrec_lang::Group;
 use term_arena::{Arena, Steps};
 use triple_kernel::Form;
+use word_terms::Code;
 
 /// The triple, if it is within the limits.
 fn if_within(arena: &Arena, h: Held) -> Option<Held>
@@ -87,7 +88,7 @@ pub fn exit<L: Ledger>(
     alloc: Global,
     arena: &mut Arena,
     g: &Group,
-    code: &SharedCode,
+    code: &Shared<Code>,
     def: u32,
     number: u32,
     steps: &mut Steps<L>,

@@ -15,7 +15,7 @@ pub fn has_code_within(known: bool, p: &Held, stated: &Held) -> bool
     ensures { IsTrue result
         ↔ IsWithin (range_bytes p.now.code.ranges) (range_bytes stated.now.code.ranges) }
 {
-    known || code_within(p.code.as_code(), stated.code.as_code())
+    known || code_within(p.code.as_ref(), stated.code.as_ref())
 }
 
 /// Whether the codes of two theorems agree. Where they are known to be the same, nothing is
@@ -26,5 +26,5 @@ pub(crate) fn have_agreement(known: bool, p: &Held, q: &Held) -> bool
     ensures { IsTrue result
         ↔ Agree (range_bytes p.now.code.ranges) (range_bytes q.now.code.ranges) }
 {
-    known || code_agree(p.code.as_code(), q.code.as_code())
+    known || code_agree(p.code.as_ref(), q.code.as_ref())
 }

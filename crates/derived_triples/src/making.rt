@@ -7,7 +7,7 @@ ghost use Rattle.rv_words.specs.Ranges.{AreRanges, range_bytes};
 ghost use Rattle.tailrec_lang.specs.Registers.{AreRegistersFrom};
 ghost use Rattle.sep_assert.specs.Code.{Agree};
 ghost use Rattle.triple_kernel.specs.Rules.{IsDischarged, IsStrengthened, IsWeakened};
-ghost use Rattle.frame_compose.specs.Rules.{AreWith, IsComposed, IsExtended, IsFramed, further, rest_after};
+ghost use Rattle.frame_compose.specs.Rules.{AreMissing, AreWith, IsComposed, IsExtended, IsFramed, further, rest_after};
 ghost use Rattle.frame_compose.specs.Rules as spec;
 ghost use Rattle.proof_text.specs.inner.OwnCode.{IsOwnCode};
 ghost use Rattle.term_arena.specs.Arena.{Tree, mem_of};
@@ -19,29 +19,41 @@ ghost use Rattle.derived_triples.specs.inner.Making.{AddedIfNew, AreFactsOfBoth,
 use crate::known::{has_code_within, have_agreement};
 use held_consequence::{is_discharged, is_strengthened, is_weakened};
 use held_terms::{
-    Facts, Held, HeldFact, HeldSide, SharedCode, copy_fact, copy_facts, copy_side, is_extension,
-    same_side, share,
+    Facts, Held, HeldFact, HeldSide, Shared, copy_fact, copy_facts, copy_side, same_side,
 };
 use rv_words::{List, NoMemory};
 use sep_assert::code_join;
 use std::alloc::Global;
 use std::sync::ledger::Ledger;
 use term_arena::{Arena, Steps};
+use word_terms::Code;
 
 /// The triple of those parts, in memory of its own.
 fn with_parts(
     alloc: Global,
     facts: &[HeldFact],
     pre: &HeldSide,
-    code: &SharedCode,
+    code: &Shared<Code>,
     post: &HeldSide,
 ) -> Result<Held, NoMemory>
     ensures { IfOk result (λ t. HasParts t facts.now pre.now code.now.ranges post.now) }
 {
     let facts = copy_facts(alloc, facts)?;
     let pre = copy_side(alloc, pre)?;
-    let code = share(code)?;
+    let code = code.share()?;
     let post = copy_side(alloc, post)?;
+    Held::new(alloc, facts, pre, code, post)
+}
+
+/// The theorem's triple over that code. Facts and code are shared.
+fn over_code(alloc: Global, p: &Held, code: &Shared<Code>) -> Result<Held, NoMemory>
+    ensures { IfOk result (λ t.
+        HasParts t p.now.facts p.now.pre code.now.ranges p.now.post) }
+{
+    let facts = p.facts.share()?;
+    let pre = copy_side(alloc, &p.pre)?;
+    let code = code.share()?;
+    let post = copy_side(alloc, &p.post)?;
     Ok(Held {
         facts,
         pre,
@@ -55,7 +67,7 @@ pub fn extended(
     alloc: Global,
     arena: &Arena,
     p: &Held,
-    code: &SharedCode,
+    code: &Shared<Code>,
     known: bool,
 ) -> Result<Option<Held>, NoMemory>
     requires p { IsFineHeld arena.now p.now }
@@ -64,9 +76,8 @@ pub fn extended(
     ensures { IfOk result (λ o. MadeIf arena.now
         (λ t. IsExtended (triple_of arena.now p.now) t × (t.code ≡ code.now.ranges)) o) }
 {
-    let t = with_parts(alloc, p.facts.as_slice(), &p.pre, code, &p.post)?;
-    let within = has_code_within(known, p, &t);
-    if !is_extension(arena, p, &t, within) {
+    let t = over_code(alloc, p, code)?;
+    if !has_code_within(known, p, &t) {
         return Ok(None);
     }
     Ok(Some(t))
@@ -175,7 +186,7 @@ pub fn composed(
     if !same_side(arena, &p.post, &q.pre) || !have_agreement(known, p, q) {
         return Ok(None);
     }
-    let facts = facts_of_both(alloc, arena, p.facts.as_slice(), q.facts.as_slice())?;
+    let facts = facts_of_both(alloc, arena, &p.facts, q.facts.as_slice())?;
     let pre = copy_side(alloc, &p.pre)?;
     let code = joined_code(alloc, &p.code, &q.code, known)?;
     let post = copy_side(alloc, &q.post)?;
@@ -192,10 +203,10 @@ pub fn composed(
 #[tactic(auto, using(held_definitions::proofs::MarkLemmas::over_same))]
 fn joined_code(
     alloc: Global,
-    a: &SharedCode,
-    b: &SharedCode,
+    a: &Shared<Code>,
+    b: &Shared<Code>,
     known: bool,
-) -> Result<SharedCode, NoMemory>
+) -> Result<Shared<Code>, NoMemory>
     requires known { IsTrue known → a.now.ranges ≡ b.now.ranges }
     requires first { AreRanges a.now.ranges }
     requires second { AreRanges b.now.ranges }
@@ -205,19 +216,20 @@ fn joined_code(
     ensures ranges { IfOk result (λ c. AreRanges c.ranges) }
 {
     if known {
-        return share(a);
+        return a.share();
     }
-    let code = code_join(alloc, a.as_code(), b.as_code())?;
-    SharedCode::new(alloc, code)
+    let code = code_join(alloc, a.as_ref(), b.as_ref())?;
+    Shared::new(alloc, code)
 }
 
-/// The first facts, and then those of the second that aren't among them, in order.
+/// The first facts, and then those of the second that aren't among them, in order. Where all are
+/// among them, the first ones are shared.
 fn facts_of_both(
     alloc: Global,
     arena: &Arena,
-    first: &[HeldFact],
+    first: &Shared<List<HeldFact>>,
     second: &[HeldFact],
-) -> Result<List<HeldFact>, NoMemory>
+) -> Result<Shared<List<HeldFact>>, NoMemory>
     requires first { AreFineFacts arena.now first.now }
     requires second { AreFineFacts arena.now second.now }
     ensures both { IfOk result (λ all.
@@ -225,12 +237,35 @@ fn facts_of_both(
         (map (fact_of arena.now) all)) }
     ensures fine { IfOk result (λ all. AreFineFacts arena.now all) }
 {
-    let known = Facts::new(alloc, first, second.len());
-    let mut all = copy_facts(alloc, first)?;
-    for fact in second {
-        add_if_new(alloc, arena, &known, &mut all, fact)?;
+    let more = missing_facts(alloc, arena, first.as_slice(), second)?;
+    if more.is_empty() {
+        return first.share();
     }
-    Ok(all)
+    let mut all = copy_facts(alloc, first.as_slice())?;
+    all.append(more)?;
+    Shared::new(alloc, all)
+}
+
+/// The facts of the second that aren't among the first, in order.
+fn missing_facts(
+    alloc: Global,
+    arena: &Arena,
+    first: &[HeldFact],
+    second: &[HeldFact],
+) -> Result<List<HeldFact>, NoMemory>
+    requires first { AreFineFacts arena.now first.now }
+    requires second { AreFineFacts arena.now second.now }
+    ensures missing { IfOk result (λ more.
+        AreMissing (map (fact_of arena.now) first.now) (map (fact_of arena.now) second.now)
+        (map (fact_of arena.now) more)) }
+    ensures fine { IfOk result (λ more. AreFineFacts arena.now more) }
+{
+    let known = Facts::new(alloc, first, second.len());
+    let mut more = List::new(alloc);
+    for fact in second {
+        add_if_new(alloc, arena, &known, &mut more, fact)?;
+    }
+    Ok(more)
 }
 
 /// Adds the fact, if it isn't among the first ones.
@@ -238,18 +273,18 @@ fn add_if_new(
     alloc: Global,
     arena: &Arena,
     first: &Facts,
-    all: &mut List<HeldFact>,
+    more: &mut List<HeldFact>,
     fact: &HeldFact,
 ) -> Result<(), NoMemory>
     requires first { AreFactsAt arena.now first.now }
     requires fact { IsFactAt arena.now fact.now }
-    ensures { OnOk result (AddedIfNew arena.now first.now fact.now all.old all.new) }
+    ensures { OnOk result (AddedIfNew arena.now first.now fact.now more.old more.new) }
 {
     if first.has(arena, fact) {
         return Ok(());
     }
     let copy = copy_fact(alloc, fact)?;
-    all.push(copy)?;
+    more.push(copy)?;
     Ok(())
 }
 
@@ -278,9 +313,9 @@ pub fn framed(
     if any_listed(p.post.regs.as_slice(), regs) {
         return Ok(None);
     }
-    let facts = copy_facts(alloc, p.facts.as_slice())?;
+    let facts = p.facts.share()?;
     let pre = with_further(alloc, &p.pre, regs, mems)?;
-    let code = share(&p.code)?;
+    let code = p.code.share()?;
     let post = with_further(alloc, &p.post, regs, mems)?;
     Ok(Some(Held {
         facts,

@@ -381,5 +381,5 @@ fn is_within_own(g: &Group, own: bool, p: &Held) -> bool
     ensures { IsTrue result
         ↔ IsWithin (range_bytes p.now.code.ranges) (range_bytes g.now.code.ranges) }
 {
-    own || code_within(p.code.as_code(), &g.code)
+    own || code_within(p.code.as_ref(), &g.code)
 }

@@ -15,12 +15,13 @@ ghost use Rattle.held_terms.specs.Terms.{HasSubterms, triple_terms};
 ghost use Rattle.held_terms.specs.inner.Put.{AreMemsPut, AreWordsPut, IsHeldPut, IsMemPut, IsSidePut, IsValuesPut, IsWordPut};
 ghost use Rattle.held_definitions.specs.inner.Exits.{IsHeldWith, IsExitPut};
 
-use held_terms::{Held, HeldFact, HeldSide, HeldValues, SharedCode, share};
+use held_terms::{Held, HeldFact, HeldSide, HeldValues, Shared};
 use rv_words::{List, NoMemory};
 use std::alloc::Global;
 use std::sync::ledger::Ledger;
 use tailrec_lang::{Def, Exit, Group, def_at, results_at};
 use term_arena::{Arena, Node, Steps};
+use word_terms::Code;
 
 /// The triple of that exit of that definition, if there is one. It shares that code, which is the
 /// group's own. A step is taken for each of its variables, and two for program counters.
@@ -28,7 +29,7 @@ pub fn exit_held<L: Ledger>(
     alloc: Global,
     arena: &mut Arena,
     g: &Group,
-    code: &SharedCode,
+    code: &Shared<Code>,
     d: u32,
     exit: u32,
     steps: &mut Steps<L>,
@@ -57,7 +58,7 @@ fn triple_at<L: Ledger>(
     alloc: Global,
     arena: &mut Arena,
     g: &Group,
-    code: &SharedCode,
+    code: &Shared<Code>,
     d: u32,
     def: &Def,
     exit: u32,
@@ -83,13 +84,8 @@ fn triple_at<L: Ledger>(
     let pre = entry_side(alloc, arena, g, def, &args, steps)?;
     let post = exit_side(alloc, arena, g, x, &results, steps)?;
     let facts = gives(alloc, d, exit, args, results)?;
-    let code = share(code)?;
-    Ok(Held {
-        facts,
-        pre,
-        code,
-        post,
-    })
+    let code = code.share()?;
+    Held::new(alloc, facts, pre, code, post)
 }
 
 /// That the definition leaves by the exit with the results, entered with the arguments.

@@ -75,12 +75,7 @@ fn held_image<L: Ledger>(
     let pre = side_image(alloc, arena, words, mems, known, &p.pre, steps)?;
     let post = side_image(alloc, arena, words, mems, known, &p.post, steps)?;
     let code = p.code.share()?;
-    Ok(Held {
-        facts,
-        pre,
-        code,
-        post,
-    })
+    Held::new(alloc, facts, pre, code, post)
 }
 
 /// The images of numbers, in order.

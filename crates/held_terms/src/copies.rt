@@ -3,7 +3,7 @@
 ghost use Rattle.std.specs.Prelude.{◌≡◌, IfOk};
 
 use crate::held::{HeldFact, HeldSide, HeldValues};
-use crate::shared_code::SharedCode;
+use crate::shared::Shared;
 use rv_words::{List, NoMemory};
 use std::alloc::Global;
 use word_terms::{Code, copy_code};
@@ -68,16 +68,9 @@ pub fn copy_side(alloc: Global, side: &HeldSide) -> Result<HeldSide, NoMemory>
 }
 
 /// The same code in memory of its own, which triples may share.
-pub fn copy_to_share(alloc: Global, code: &Code) -> Result<SharedCode, NoMemory>
+pub fn copy_to_share(alloc: Global, code: &Code) -> Result<Shared<Code>, NoMemory>
     ensures { IfOk result (λ copy. copy.ranges ≡ code.now.ranges) }
 {
     let copy = copy_code(alloc, code)?;
-    SharedCode::new(alloc, copy)
-}
-
-/// The same code in the same place.
-pub fn share(code: &SharedCode) -> Result<SharedCode, NoMemory>
-    ensures { IfOk result (λ same. same.ranges ≡ code.now.ranges) }
-{
-    code.share()
+    Shared::new(alloc, copy)
 }

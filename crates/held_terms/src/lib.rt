@@ -12,7 +12,8 @@
 //!
 //! What a rule asks of the codes is told by the caller: whether they are the same, whether one lies
 //! within the other, whether one is the union of two, whether one is the group's own. So no rule
-//! walks through bytes, and codes in one place ([`SharedCode`]) cost nothing.
+//! walks through bytes. Triples share the facts and the code that a rule leaves as they are
+//! ([`Shared`]).
 //!
 //! A fact among more than a few is looked up by the order of its numbers ([`Facts`]), and so is one
 //! among those of a way, which come and go at its end ([`Way`]).
@@ -27,15 +28,15 @@ mod missing;
 mod put;
 mod rules;
 mod same;
-mod shared_code;
+mod shared;
 mod way;
 
-pub use copies::{copy_fact, copy_facts, copy_side, copy_to_share, share};
+pub use copies::{copy_fact, copy_facts, copy_side, copy_to_share};
 pub use facts::Facts;
 pub use held::{Held, HeldFact, HeldSide, HeldValues};
 pub use later_rules::{is_exchanged, is_steered};
 pub use put::{put_facts, put_mem, put_mems, put_side, put_triple, put_word};
 pub use rules::{is_composition, is_extension, is_frame};
 pub use same::{same_mem, same_side, same_triple, same_word};
-pub use shared_code::SharedCode;
+pub use shared::Shared;
 pub use way::Way;

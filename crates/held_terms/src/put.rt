@@ -36,12 +36,7 @@ pub fn put_triple<L: Ledger>(
     let pre = put_side(alloc, arena, &t.pre, steps)?;
     let post = put_side(alloc, arena, &t.post, steps)?;
     let code = copy_to_share(alloc, &t.code)?;
-    Ok(Held {
-        facts,
-        pre,
-        code,
-        post,
-    })
+    Held::new(alloc, facts, pre, code, post)
 }
 
 /// The facts of the numbers of their terms.

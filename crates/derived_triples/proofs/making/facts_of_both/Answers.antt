@@ -1,19 +1,40 @@
-use Rattle.std.proofs.Common.{List, subst}
+use Rattle.std.proofs.Common.{List, ◌++◌, map, sym, ap, ◌∙◌, subst}
+use Rattle.std.proofs.lemmas.List.{append-nil}
+use Rattle.std.proofs.lemmas.Result.{IfOk-weaker}
+use Rattle.frame_compose.specs.Rules.{AreMissing}
+use Rattle.held_terms.specs.Held.{fact_of}
 use Rattle.held_terms.specs.declared.held.HeldFact.{HeldFact}
-use Rattle.derived_triples.specs.inner.Making.{AddedIfNew}
-use Rattle.derived_triples.proofs.MakingLemmas.{both_more, fine_more}
+use Rattle.derived_triples.specs.Fine.{AreFineFacts}
+use Rattle.derived_triples.proofs.MakingLemmas.{both_put, fine_both}
 use Rattle.derived_triples.proofs.making.facts_of_both.Goals as goal
 
-pub loop-fact-preserved : goal.loop-fact-preserved
-loop-fact-preserved c =
+pub returns-then-is_empty-clause-both : goal.returns-then-is_empty-clause-both
+returns-then-is_empty-clause-both c =
     let ns = c.args.arena.now in
     let first = c.args.first.now in
     let second = c.args.second.now in
-    let i = c.loop-fact.fact-index in
-    let old = c.loop-fact.all in
-    let new = c.add_if_new.new.all in
-    let added = subst (λ (known : List HeldFact). AddedIfNew ns known c.fact-item.result old new) c.new-known.ensures c.in_ok-add_if_new.ensures in
-    record {
-      both = both_more ns first second i c.fact-item.result c.loop-fact-test.true c.fact-item.is old new added c.loop-fact.invariant.both;
-      fine = fine_more ns first second old new i c.fact-item.result c.loop-fact-test.true c.fact-item.is added c.requires.second c.loop-fact.invariant.fine;
-    }
+    let more = c.in_ok-more.more in
+    let missing = subst (λ (l : List HeldFact). AreMissing (map (fact_of ns) l) (map (fact_of ns) second) (map (fact_of ns) more)) c.as_slice.ensures c.in_ok-more.ensures.missing in
+    let none = c.is_empty.ensures.0 c.if-is_empty.true in
+    IfOk-weaker c.share.result _ _ (λ all e. both_put ns first second more all missing (e ∙ sym (append-nil first) ∙ ap (λ (l : List HeldFact). first ++ l) (sym none))) c.share.ensures
+
+pub returns-then-is_empty-clause-fine : goal.returns-then-is_empty-clause-fine
+returns-then-is_empty-clause-fine c = IfOk-weaker c.share.result _ _ (λ all e. subst (AreFineFacts c.args.arena.now) (sym e) c.requires.first) c.share.ensures
+
+pub returns-clause-both : goal.returns-clause-both
+returns-clause-both c =
+    let ns = c.args.arena.now in
+    let first = c.args.first.now in
+    let second = c.args.second.now in
+    let more = c.in_ok-more.more in
+    let missing = subst (λ (l : List HeldFact). AreMissing (map (fact_of ns) l) (map (fact_of ns) second) (map (fact_of ns) more)) c.as_slice.ensures c.in_ok-more.ensures.missing in
+    let whole = c.in_ok-append.ensures.ok ∙ ap (λ (l : List HeldFact). l ++ more) (c.in_ok-all.ensures ∙ c.as_slice-2.ensures) in
+    IfOk-weaker c.new.result _ _ (λ all e. both_put ns first second more all missing (e ∙ whole)) c.new.ensures
+
+pub returns-clause-fine : goal.returns-clause-fine
+returns-clause-fine c =
+    let ns = c.args.arena.now in
+    let first = c.args.first.now in
+    let more = c.in_ok-more.more in
+    let whole = c.in_ok-append.ensures.ok ∙ ap (λ (l : List HeldFact). l ++ more) (c.in_ok-all.ensures ∙ c.as_slice-2.ensures) in
+    IfOk-weaker c.new.result _ _ (λ all e. subst (AreFineFacts ns) (sym (e ∙ whole)) (fine_both ns first more c.requires.first c.in_ok-more.ensures.fine)) c.new.ensures

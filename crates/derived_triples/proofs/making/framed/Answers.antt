@@ -1,6 +1,7 @@
-use Rattle.std.proofs.Common.{List, ℕ, sym, ◌∙◌, subst}
+use Rattle.std.proofs.Common.{List, ℕ, sym, ap, subst}
 use Rattle.std.specs.Prelude.{◌≡◌, All, false}
 use Rattle.frame_compose.specs.Rules.{is_listed}
+use Rattle.word_terms.specs.declared.code.Code.{Code}
 use Rattle.derived_triples.proofs.Merging.{framed_made, never, none_framed_after, none_framed_before, own_numbers}
 use Rattle.derived_triples.proofs.making.framed.Goals as goal
 
@@ -25,6 +26,6 @@ with_further-requires-2-clause-own c = own_numbers c.args.arena.now c.args.p.now
 pub returns : goal.returns
 returns c =
     framed_made c.args.arena.now c.args.p.now c.requires.p c.args.regs.now c.args.mems.now (record { facts = c.in_ok-facts.facts; pre = c.in_ok-pre.pre; code = c.in_ok-code.code; post = c.in_ok-post.post })
-    c.requires.regs c.requires.mems (c.in_ok-facts.ensures ∙ c.as_slice-3.ensures)
-    (record { pc = c.in_ok-pre.ensures.pc; registers = c.in_ok-pre.ensures.regs; rise = c.in_ok-pre.ensures.rise; memories = c.in_ok-pre.ensures.mems }) c.in_ok-code.ensures
+    c.requires.regs c.requires.mems c.in_ok-facts.ensures
+    (record { pc = c.in_ok-pre.ensures.pc; registers = c.in_ok-pre.ensures.regs; rise = c.in_ok-pre.ensures.rise; memories = c.in_ok-pre.ensures.mems }) (ap (λ (code : Code). code.ranges) c.in_ok-code.ensures)
     (record { pc = c.in_ok-post.ensures.pc; registers = c.in_ok-post.ensures.regs; rise = c.in_ok-post.ensures.rise; memories = c.in_ok-post.ensures.mems })

@@ -1,8 +1,12 @@
-use Rattle.std.proofs.Common.{ℕ, subst, ◌∙◌, arith}
+use Rattle.std.proofs.Common.{ℕ, sym, ap, subst, ◌∙◌, arith}
+use Rattle.std.proofs.lemmas.Result.{IfOk-weaker}
+use Rattle.word_terms.specs.declared.code.Code.{Code}
 use Rattle.tailrec_lang.specs.Tree.{def_tree, group_tree}
 use Rattle.tailrec_lang.specs.WellFormed.{exit_words}
 use Rattle.loop_rule.specs.Leaves.{variables_after}
-use Rattle.held_terms.specs.inner.Put.{IsValuesPut}
+use Rattle.loop_rule.specs.Rule.{exit_triple}
+use Rattle.held_terms.specs.declared.held.Held.{Held}
+use Rattle.held_terms.specs.inner.Put.{IsHeldPut, IsValuesPut}
 use Rattle.held_definitions.proofs.ExitParts.{exit_put}
 use Rattle.held_definitions.proofs.ExitSteps.{exit_within}
 use Rattle.held_terms.proofs.PutLemmas.{values_stay}
@@ -25,8 +29,9 @@ returns-clause-put g c =
     let args = subst (λ (n : ℕ). IsValuesPut n1 c.in_ok-args.args (variables_after 0 0 n mems)) c.len-words.ensures c.in_ok-args.ensures.put in
     let counted = subst (λ (n : ℕ). IsValuesPut n2 c.in_ok-results.results (variables_after c.len-words.result mems n mems)) c.results_at.ensures c.in_ok-results.ensures.put in
     let results = subst (λ (n : ℕ). IsValuesPut n2 c.in_ok-results.results (variables_after n mems (exit_words tree c.args.x) mems)) c.len-words.ensures counted in
-    exit_put tree c.args.d (def_tree c.args.def.now) c.args.exit c.args.x n1 n2 n3 n4 c.variables-2.ensures.grows c.entry_side.ensures.grows c.exit_side.ensures.grows c.in_ok-args.args c.in_ok-results.results
-    c.in_ok-pre.pre c.in_ok-post.post c.in_ok-facts.facts c.in_ok-code.code args results c.in_ok-pre.ensures.put c.in_ok-post.ensures.put c.in_ok-facts.ensures (c.in_ok-code.ensures ∙ c.requires.code)
+    let put = exit_put tree c.args.d (def_tree c.args.def.now) c.args.exit c.args.x n1 n2 n3 n4 c.variables-2.ensures.grows c.entry_side.ensures.grows c.exit_side.ensures.grows c.in_ok-args.args c.in_ok-results.results
+    c.in_ok-pre.pre c.in_ok-post.post c.in_ok-facts.facts c.in_ok-code.code args results c.in_ok-pre.ensures.put c.in_ok-post.ensures.put c.in_ok-facts.ensures (ap (λ (code : Code). code.ranges) c.in_ok-code.ensures ∙ c.requires.code) in
+    IfOk-weaker c.new.result _ _ (λ h e. subst (λ (q : Held). IsHeldPut n4 q (exit_triple tree c.args.d (def_tree c.args.def.now) c.args.exit c.args.x)) (sym e) put) c.new.ensures
 
 pub returns-in_err-args-clause-steps : goal.returns-in_err-args-clause-steps
 returns-in_err-args-clause-steps g c = λ ts has.

@@ -1,11 +1,14 @@
 use Rattle.std.proofs.Common.{List, ap, sym, subst}
 use Rattle.std.specs.List.{AllZip}
+use Rattle.std.proofs.lemmas.Result.{IfOk-weaker}
 use Rattle.word_terms.specs.declared.code.Code.{Code}
 use Rattle.held_terms.specs.declared.held.HeldFact.{HeldFact}
 use Rattle.held_terms.specs.declared.held.Held.{Held}
 use Rattle.held_instances.specs.Image.{put_for_numbers}
 use Rattle.held_instances.specs.inner.Instances.{IsFactImage}
+use Rattle.held_terms.specs.Held.{IsHeldAt, triple_of}
 use Rattle.held_terms.specs.Subterms.{HasFacts, HasHeld, HasSide}
+use Rattle.triple_kernel.specs.Rules.{IsInst}
 use Rattle.held_instances.specs.inner.Imaging.{Imaged}
 use Rattle.held_instances.proofs.AskedLemmas.{side_asked}
 use Rattle.held_instances.proofs.ImagingLemmas.{imaged_next, imaged_under}
@@ -39,7 +42,8 @@ returns-clause-there g c =
       code = ap (λ (code : Code). code.ranges) c.in_ok-code.ensures;
       post = c.in_ok-post.ensures.image;
     } in
-    held_there now (put_for_numbers now words mems) c.args.p.now q (held_still c.args.arena.now now grown c.args.p.now c.requires.p) parts
+    let there = held_there now (put_for_numbers now words mems) c.args.p.now q (held_still c.args.arena.now now grown c.args.p.now c.requires.p) parts in
+    IfOk-weaker c.new.result _ _ (λ h e. subst (IsHeldAt now) (sym e) there) c.new.ensures
 
 pub returns-clause-instance : goal.returns-clause-instance
 returns-clause-instance g c =
@@ -59,7 +63,9 @@ returns-clause-instance g c =
       code = ap (λ (code : Code). code.ranges) c.in_ok-code.ensures;
       post = c.in_ok-post.ensures.image;
     } in
-    instance_of c.args.arena.now now words mems c.args.p.now q grown c.requires.ready.sub c.requires.p parts
+    let instance = instance_of c.args.arena.now now words mems c.args.p.now q grown c.requires.ready.sub c.requires.p parts in
+    IfOk-weaker c.new.result _ _
+    (λ h e. subst (λ (x : Held). IsInst (put_for_numbers c.args.arena.now words mems) (triple_of c.args.arena.now c.args.p.now) (triple_of now x)) (sym e) instance) c.new.ensures
 
 pub returns-in_err-facts-clause-imaged : goal.returns-in_err-facts-clause-imaged
 returns-in_err-facts-clause-imaged g c =

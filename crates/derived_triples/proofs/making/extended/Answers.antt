@@ -1,0 +1,11 @@
+use Rattle.derived_triples.proofs.MakingLemmas.{extended_made, none_extended}
+use Rattle.derived_triples.proofs.Merging.{never}
+use Rattle.derived_triples.proofs.making.extended.Goals as goal
+
+pub returns-then-not-has_code_within : goal.returns-then-not-has_code_within
+returns-then-not-has_code_within c =
+    none_extended c.args.arena.now c.args.p.now c.in_ok-t.t c.args.code.now.ranges c.in_ok-t.ensures.2 (λ within. never c.if-not-has_code_within.true (c.has_code_within.ensures.1 within))
+
+pub returns : goal.returns
+returns c =
+    extended_made c.args.arena.now c.args.p.now c.in_ok-t.t c.args.code.now.ranges c.requires.p c.requires.code c.in_ok-t.ensures (c.has_code_within.ensures.0 c.if-not-has_code_within.false)
