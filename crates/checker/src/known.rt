@@ -74,8 +74,8 @@ pub(crate) fn has_code(known: bool, p: &Held, stated: &Held) -> bool
     known || same_code(p.code.as_ref(), stated.code.as_ref())
 }
 
-/// Whether the codes of two theorems agree and are that of the triple together. Where the first
-/// theorem's is known to be that, it is left to see whether the other's lies within it.
+/// Whether the codes of two theorems agree and are that of the triple together. Where that of one
+/// of them is known to be that, it is left to see whether the other's lies within it.
 pub(crate) fn have_union(
     first_known: bool,
     second_known: bool,
@@ -92,6 +92,8 @@ pub(crate) fn have_union(
 {
     if first_known {
         has_code_within(second_known, q, stated)
+    } else if second_known {
+        has_code_within(first_known, p, stated)
     } else {
         is_union(p.code.as_ref(), q.code.as_ref(), stated.code.as_ref())
     }

@@ -11,7 +11,7 @@ use Rattle.rv_words.specs.Ranges.{range_bytes}
 use Rattle.rv_words.specs.declared.range.Range.{Range}
 use Rattle.sep_assert.specs.Code.{Agree, IsWithin}
 use Rattle.sep_assert.proofs.CodeLemmas as code
-use Rattle.frame_compose.proofs.UnionLemmas.{covered_by_first, union-within}
+use Rattle.frame_compose.proofs.UnionLemmas.{covered_by_first, covered_by_second, union-within}
 use Rattle.held_terms.specs.declared.held.Held.{Held}
 use Rattle.held_definitions.specs.Theorems.{Theorems, held_by_number}
 use Rattle.held_definitions.specs.inner.Marks.{Changes, HaveCode, HaveSameCode}
@@ -59,6 +59,22 @@ union_first xs ys zs e = (
     union-within (range_bytes xs) (range_bytes ys) (range_bytes zs) (code.within_same xs zs e) within (covered_by_first zs xs ys (sym e)),
   ),
   λ both. subst (λ (x : Bytes). IsWithin (range_bytes ys) x) both.1 (code.within_of_agree (range_bytes ys) (range_bytes xs) (agree-back (range_bytes xs) (range_bytes ys) both.0)),
+)
+
+agree-second : (x y z : Bytes) → y ≡ z → IsWithin x z → Agree x y
+agree-second x y z same within a b c e f =
+    let one : y a ≡ z a = λ i. same i a in
+    let two : z a ≡ Some b = within a b e in
+    cc
+
+-- likewise where the second has them
+pub union_second : (xs ys zs : List Range) → ys ≡ zs → IsWithin (range_bytes xs) (range_bytes zs) ↔ AreUnited xs ys zs
+union_second xs ys zs e = (
+  λ within. (
+    agree-second (range_bytes xs) (range_bytes ys) (range_bytes zs) (ap range_bytes e) within,
+    union-within (range_bytes xs) (range_bytes ys) (range_bytes zs) within (code.within_same ys zs e) (covered_by_second zs xs ys (sym e) within),
+  ),
+  λ both a b x. (λ i. sym both.1 i a) ∙ ap (λ o. option_or o (range_bytes ys a)) x,
 )
 
 -- ---- marked theorems

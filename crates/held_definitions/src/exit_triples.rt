@@ -212,8 +212,8 @@ fn side_with(
 fn registers_with(alloc: Global, regs: &[u8], words: &[u64]) -> Result<List<(u8, u64)>, NoMemory>
     ensures { IfOk result (λ list. list ≡ zip regs.now words.now) }
 {
-    let mut list = List::new(alloc);
     let count = regs.len().min(words.len());
+    let mut list = List::with_capacity(alloc, count)?;
     for i in 0..count {
         list.push((regs[i], words[i]))?;
     }
@@ -252,7 +252,7 @@ fn word_variables<L: Ledger>(
     ensures grows { Extends arena.old arena.new }
     ensures steps { steps.new ≤ steps.old + count }
 {
-    let mut list = List::new(alloc);
+    let mut list = List::with_capacity(alloc, count)?;
     for i in 0..count {
         let k = word_variable(arena, first, i, steps)?;
         list.push(k)?;
@@ -272,7 +272,7 @@ fn mem_variables<L: Ledger>(
     ensures grows { Extends arena.old arena.new }
     ensures steps { steps.new ≤ steps.old + count }
 {
-    let mut list = List::new(alloc);
+    let mut list = List::with_capacity(alloc, count)?;
     for i in 0..count {
         let k = mem_variable(arena, first, i, steps)?;
         list.push(k)?;

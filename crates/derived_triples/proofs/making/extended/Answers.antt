@@ -4,7 +4,7 @@ use Rattle.derived_triples.proofs.making.extended.Goals as goal
 
 pub returns-then-not-has_code_within : goal.returns-then-not-has_code_within
 returns-then-not-has_code_within c =
-    none_extended c.args.arena.now c.args.p.now c.in_ok-t.t c.args.code.now.ranges c.in_ok-t.ensures.2 (λ within. never c.if-not-has_code_within.true (c.has_code_within.ensures.1 within))
+    none_extended c.args.arena.now c.args.p.now c.in_ok-t.t c.args.code.now.ranges c.in_ok-t.ensures.2 (λ within. never (c.has_code_within.ensures.1 within) c.if-not-has_code_within.true)
 
 pub returns : goal.returns
 returns c =
