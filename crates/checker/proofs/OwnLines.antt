@@ -9,7 +9,7 @@ use Rattle.triple_kernel.specs.Tree.{TripleTree}
 use Rattle.frame_compose.specs.Rules.{IsComposed}
 use Rattle.proof_text.specs.LineLimits.{IsTriple}
 use Rattle.proof_text.specs.inner.OwnCode.{IsOwnCode}
-use Rattle.proof_text.specs.Line.{Compose, Discharge, Frame, Inst, Strengthen, UseExit, Weaken, code_or_own}
+use Rattle.proof_text.specs.Line.{Axiom, Compose, Discharge, ExtendCode, Frame, Inst, RuleTree, Strengthen, UseExit, Weaken, code_or_own}
 use Rattle.term_arena.specs.declared.node.Node.{Node}
 use Rattle.held_terms.specs.declared.held.Held.{Held}
 use Rattle.held_terms.specs.Held.{triple_of}
@@ -17,9 +17,10 @@ use Rattle.short_text.specs.declared.short.Short.{Short}
 use Rattle.short_text.specs.declared.short.Short.TheVariants as short
 use Rattle.short_text.specs.FullLine.{mems_for, words_for}
 use Rattle.short_text.specs.SpelledShort.{short_or_own}
-use Rattle.verdicts.specs.Instance.{History}
+use Rattle.verdicts.specs.Instance.{History, Meets}
 use Rattle.held_definitions.specs.Theorems.{Theorems, held_by_number, theorem_at}
-use Rattle.checker.specs.inner.Sharing.{IsOwnStated, states_own}
+use Rattle.checker.specs.Short.{IsStatedBy}
+use Rattle.checker.specs.inner.Sharing.{IsGiven, IsOwnStated, code_giver, short_giver, states_own}
 use Rattle.held_definitions.proofs.MarkLemmas.{over_same}
 use Rattle.checker.proofs.StatingLemmas.{rule_of}
 
@@ -65,6 +66,38 @@ module _ (g : GroupTree) (h : History) (ns : List Node) (marked : ℕ → Bool) 
   own_stated all (short.UseExit d exit) e = record { each = λ t x. ap (λ (q : TripleTree). q.code) (rule_of g h ns (short.UseExit d exit) t (UseExit d exit) x x.1.full.0).1.same }
   own_stated all (short.Loop d cited) e = absurd (true≢false (sym e))
   own_stated all (short.Forget k) e = absurd (true≢false (sym e))
+
+-- ---- the theorem that gives its code
+
+given-as : {S : TripleTree → Type 0} (o : Option TripleTree) (R : TripleTree → Type 0) → IsSomeAnd o R → ((q : TripleTree) → R q → S q) → IsSomeAnd o S
+given-as None R so same = absurd so
+given-as (Some q) R so same = same q so
+
+-- .. by a rule
+pub given_by : (g : GroupTree) (h : History) (r : RuleTree) (t : TripleTree) → Meets g h r t → IsGiven h (code_giver r) t.code
+given_by g h (Axiom a w form) t m = tt
+given_by g h (Inst p words mems) t m = given-as (h.theorem p) _ m (λ q i. i.code)
+given_by g h (Frame p) t m = given-as (h.theorem p) _ m (λ q i. i.code)
+given_by g h (Compose p q) t m = tt
+given_by g h (ExtendCode p) t m = tt
+given_by g h (Strengthen p) t m = given-as (h.theorem p) _ m (λ q i. i.code)
+given_by g h (Weaken p) t m = given-as (h.theorem p) _ m (λ q i. i.code)
+given_by g h (Discharge p) t m = given-as (h.theorem p) _ m (λ q i. i.code)
+given_by g h (UseExit def exit) t m = tt
+
+-- .. by a short line
+pub given_stated : (g : GroupTree) (h : History) (ns : List Node) (all : Bool) (s : Short) (t : TripleTree) → IsStatedBy g h ns (short_or_own g.code all s) t → IsGiven h (short_giver s) t.code
+given_stated g h ns all (short.Axiom a w form) t x = tt
+given_stated g h ns all (short.Inst p words mems) t x = given_by g h (Inst p (words_for ns words) (mems_for ns mems)) t (rule_of g h ns (short.Inst p words mems) t (Inst p (words_for ns words) (mems_for ns mems)) x x.1.full.0)
+given_stated g h ns all (short.Frame p regs mems) t x = given_by g h (Frame p) t (rule_of g h ns (short.Frame p regs mems) t (Frame p) x x.1.full.0)
+given_stated g h ns all (short.ExtendCode p code) t x = tt
+given_stated g h ns all (short.Compose p q) t x = tt
+given_stated g h ns all (short.Strengthen p facts pre) t x = given_by g h (Strengthen p) t (rule_of g h ns (short.Strengthen p facts pre) t (Strengthen p) x x.1.full.0)
+given_stated g h ns all (short.Weaken p facts post) t x = given_by g h (Weaken p) t (rule_of g h ns (short.Weaken p facts post) t (Weaken p) x x.1.full.0)
+given_stated g h ns all (short.Discharge p facts) t x = given_by g h (Discharge p) t (rule_of g h ns (short.Discharge p facts) t (Discharge p) x x.1.full.0)
+given_stated g h ns all (short.UseExit d exit) t x = tt
+given_stated g h ns all (short.Loop d cited) t x = tt
+given_stated g h ns all (short.Forget k) t x = tt
 
 -- ---- lines as they are spelled
 

@@ -40,7 +40,10 @@
 
 mod bench;
 mod check;
+mod derive;
 mod further_rule;
+mod judge;
+mod keep;
 mod known;
 mod laws;
 mod rules;

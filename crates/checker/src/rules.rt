@@ -16,16 +16,16 @@ ghost use Rattle.held_definitions.specs.Theorems.{AreHeldAt, held_by_number, the
 ghost use Rattle.checker.specs.Bench.{history_from, is_closed_in};
 ghost use Rattle.held_terms.specs.Terms.{HasSubterms, nodes_of, pair_steps, theorem_terms, triple_terms};
 ghost use Rattle.checker.specs.LineTerms.{compares_numbers, premise_terms, put_in_terms};
-ghost use Rattle.held_definitions.specs.inner.Marks.{HaveCode, over_code};
+ghost use Rattle.held_definitions.specs.inner.Marks.{AreMarked, HasWithin, over_code};
 ghost use Rattle.held_terms.specs.inner.Put.{IsHeldPut};
 ghost use Rattle.checker.specs.inner.Sharing.{code_giver};
 
 use crate::further_rule::is_further;
-use crate::known::{has_code, has_own_code, have_union, is_known};
+use crate::known::{has_code, has_own_code, have_union, is_known, is_within};
 use derived_triples::{has_code_within, put_mem_terms, put_word_terms};
 use group_text::Version;
 use held_consequence::{is_discharged, is_strengthened, is_weakened};
-use held_definitions::{is_exit, theorem};
+use held_definitions::{Marks, is_exit, theorem};
 use held_instances::{ImageTable, is_instance};
 use held_terms::{Held, is_composition, is_extension, is_frame};
 use instr_axioms::axiom_triple;
@@ -33,7 +33,7 @@ use proof_text::Rule;
 use rv_words::NoMemory;
 use sep_assert::{same_assertion, same_code};
 use std::alloc::Global;
-use std::collections::{BTreeMap, BTreeSet};
+use std::collections::BTreeMap;
 use std::sync::ledger::Ledger;
 use tailrec_lang::Group;
 use term_arena::{Arena, Steps};
@@ -50,7 +50,7 @@ pub(crate) fn meets<L: Ledger>(
     arena: &mut Arena,
     images: &mut ImageTable,
     held: &BTreeMap<u64, Held>,
-    marked: &BTreeSet<u64>,
+    marked: &Marks,
     closed: &[bool],
     rule: &Rule,
     stated: &Triple,
@@ -59,7 +59,7 @@ pub(crate) fn meets<L: Ledger>(
     steps: &mut Steps<L>,
 ) -> Result<bool, NoMemory>
     requires held { AreHeldAt arena.old held.now.entries }
-    requires marked { HaveCode g.now.code.ranges held.now.entries marked.now }
+    requires marked { AreMarked g.now.code.ranges held.now.entries marked.now }
     requires put { IsHeldPut arena.old put.now (triple_or_own (group_tree g.now).code own
         (triple_tree stated.now)) }
     requires own { IsTrue own → put.now.code.ranges ≡ g.now.code.ranges }
@@ -90,10 +90,23 @@ pub(crate) fn meets<L: Ledger>(
         Rule::Compose(p, q) => {
             let first = is_known(g, held, marked, own, *p, put);
             let second = is_known(g, held, marked, own, *q, put);
-            Ok(by_compose(alloc, arena, held, *p, *q, put, first, second))
+            let first_within = is_within(g, held, marked, own, *p, put);
+            let second_within = is_within(g, held, marked, own, *q, put);
+            Ok(by_compose(
+                alloc,
+                arena,
+                held,
+                *p,
+                *q,
+                put,
+                first,
+                second,
+                first_within,
+                second_within,
+            ))
         }
         Rule::ExtendCode(p) => {
-            let known = is_known(g, held, marked, own, *p, put);
+            let known = is_within(g, held, marked, own, *p, put);
             Ok(by_extend_code(arena, held, *p, put, known))
         }
         Rule::Strengthen(p) => {
@@ -261,6 +274,8 @@ fn by_compose(
     stated: &Held,
     first_known: bool,
     second_known: bool,
+    first_within: bool,
+    second_within: bool,
 ) -> bool
     requires held { AreHeldAt arena.now held.now.entries }
     requires stated { IsHeldAt arena.now stated.now }
@@ -268,6 +283,10 @@ fn by_compose(
         → IfSome (held_by_number held.now.entries p) (λ q. q.code.ranges ≡ stated.now.code.ranges) }
     requires second { IsTrue second_known
         → IfSome (held_by_number held.now.entries q) (λ p. p.code.ranges ≡ stated.now.code.ranges) }
+    requires first_within { IsTrue first_within
+        → IfSome (held_by_number held.now.entries p) (HasWithin stated.now.code.ranges) }
+    requires second_within { IsTrue second_within
+        → IfSome (held_by_number held.now.entries q) (HasWithin stated.now.code.ranges) }
     ensures { IsTrue result
         ↔ IsSomeAnd (theorem_at arena.now held.now.entries p) (λ p.
         IsSomeAnd (theorem_at arena.now held.now.entries q) (λ q.
@@ -275,7 +294,18 @@ fn by_compose(
 {
     match theorem(arena, held, p) {
         Some(p) => {
-            is_composition_with(alloc, arena, held, p, q, stated, first_known, second_known)
+            is_composition_with(
+                alloc,
+                arena,
+                held,
+                p,
+                q,
+                stated,
+                first_known,
+                second_known,
+                first_within,
+                second_within,
+            )
         }
         None => false,
     }
@@ -290,6 +320,8 @@ fn is_composition_with(
     stated: &Held,
     first_known: bool,
     second_known: bool,
+    first_within: bool,
+    second_within: bool,
 ) -> bool
     requires held { AreHeldAt arena.now held.now.entries }
     requires p { IsHeldAt arena.now p.now }
@@ -297,13 +329,24 @@ fn is_composition_with(
     requires first { IsTrue first_known → p.now.code.ranges ≡ stated.now.code.ranges }
     requires second { IsTrue second_known
         → IfSome (held_by_number held.now.entries q) (λ p. p.code.ranges ≡ stated.now.code.ranges) }
+    requires first_within { IsTrue first_within → HasWithin stated.now.code.ranges p.now }
+    requires second_within { IsTrue second_within
+        → IfSome (held_by_number held.now.entries q) (HasWithin stated.now.code.ranges) }
     ensures { IsTrue result
         ↔ IsSomeAnd (theorem_at arena.now held.now.entries q) (λ q.
         IsComposed (triple_of arena.now p.now) q (triple_of arena.now stated.now)) }
 {
     match theorem(arena, held, q) {
         Some(q) => {
-            let union = have_union(first_known, second_known, p, q, stated);
+            let union = have_union(
+                first_known,
+                second_known,
+                first_within,
+                second_within,
+                p,
+                q,
+                stated,
+            );
             is_composition(alloc, arena, p, q, stated, union)
         }
         None => false,
@@ -320,7 +363,7 @@ fn by_extend_code(
     requires held { AreHeldAt arena.now held.now.entries }
     requires stated { IsHeldAt arena.now stated.now }
     requires known { IsTrue known
-        → IfSome (held_by_number held.now.entries p) (λ q. q.code.ranges ≡ stated.now.code.ranges) }
+        → IfSome (held_by_number held.now.entries p) (HasWithin stated.now.code.ranges) }
     ensures { IsTrue result
         ↔ IsSomeAnd (theorem_at arena.now held.now.entries p) (λ p.
         IsExtended p (triple_of arena.now stated.now)) }

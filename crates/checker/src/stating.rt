@@ -21,19 +21,20 @@ ghost use Rattle.checker.specs.Short.{AreFineAt, IsFineShort, IsStatedBy};
 ghost use Rattle.checker.specs.LineTerms.{HasShort, is_copied};
 ghost use Rattle.held_terms.specs.Terms.{HasSubterms, pair_steps, theorem_terms, triple_terms};
 ghost use Rattle.derived_triples.specs.inner.Making.{MadeIf};
-ghost use Rattle.held_definitions.specs.inner.Marks.{HaveCode};
+ghost use Rattle.held_definitions.specs.inner.Marks.{AreMarked};
 
-use crate::known::{are_known, is_marked};
+use crate::known::are_known;
 use crate::rules::is_closed;
 use derived_triples::{
     axiom, composed, discharged, exit, extended, framed, put_in, strengthened, weakened,
 };
+use held_definitions::Marks;
 use held_instances::ImageTable;
 use held_terms::{Held, HeldFact, HeldSide, Shared, copy_to_share};
 use rv_words::{List, NoMemory};
 use short_text::Short;
 use std::alloc::Global;
-use std::collections::{BTreeMap, BTreeSet};
+use std::collections::BTreeMap;
 use std::sync::ledger::Ledger;
 use tailrec_lang::Group;
 use term_arena::{Arena, Steps};
@@ -49,7 +50,7 @@ pub(crate) fn stated_by<L: Ledger>(
     arena: &mut Arena,
     images: &mut ImageTable,
     held: &BTreeMap<u64, Held>,
-    marked: &BTreeSet<u64>,
+    marked: &Marks,
     closed: &[bool],
     line: &Short,
     all: bool,
@@ -58,7 +59,7 @@ pub(crate) fn stated_by<L: Ledger>(
     requires code { IsOwnCode g.now.code.ranges }
     requires shared { code.now.ranges ≡ g.now.code.ranges }
     requires held { AreFineAt arena.old held.now.entries }
-    requires marked { HaveCode g.now.code.ranges held.now.entries marked.now }
+    requires marked { AreMarked g.now.code.ranges held.now.entries marked.now }
     requires line { IsFineShort arena.old (short_or_own g.now.code.ranges all line.now) }
     ensures made { IfOk result (λ o.
         MadeIf arena.new
@@ -189,14 +190,14 @@ fn by_extend_code(
     code: &Shared<Code>,
     arena: &Arena,
     held: &BTreeMap<u64, Held>,
-    marked: &BTreeSet<u64>,
+    marked: &Marks,
     p: u64,
     more: &Code,
     all: bool,
 ) -> Result<Option<Held>, NoMemory>
     requires shared { code.now.ranges ≡ g.now.code.ranges }
     requires held { AreFineAt arena.now held.now.entries }
-    requires marked { HaveCode g.now.code.ranges held.now.entries marked.now }
+    requires marked { AreMarked g.now.code.ranges held.now.entries marked.now }
     requires more { IsOwnCode (code_or_own g.now.code.ranges all more.now.ranges) }
     ensures { IfOk result (λ o. MadeIf arena.now
         (λ t. IsSomeAnd (theorem_at arena.now held.now.entries p) (λ q.
@@ -209,25 +210,26 @@ fn by_extend_code(
     }
 }
 
-/// The theorem over the group's own code. Where it is marked, nothing is compared.
+/// The theorem over the group's own code. Where its code is known to lie within that, nothing is
+/// compared.
 fn by_extend_to_own(
     alloc: Global,
     g: &Group,
     code: &Shared<Code>,
     arena: &Arena,
     held: &BTreeMap<u64, Held>,
-    marked: &BTreeSet<u64>,
+    marked: &Marks,
     p: u64,
 ) -> Result<Option<Held>, NoMemory>
     requires own { IsOwnCode g.now.code.ranges }
     requires shared { code.now.ranges ≡ g.now.code.ranges }
     requires held { AreFineAt arena.now held.now.entries }
-    requires marked { HaveCode g.now.code.ranges held.now.entries marked.now }
+    requires marked { AreMarked g.now.code.ranges held.now.entries marked.now }
     ensures { IfOk result (λ o. MadeIf arena.now
         (λ t. IsSomeAnd (theorem_at arena.now held.now.entries p) (λ q.
         IsExtended q t × (t.code ≡ g.now.code.ranges))) o) }
 {
-    let known = is_marked(g, held, marked, p);
+    let known = marked.is_within(p);
     match fine_theorem(arena, held, p) {
         Some(q) => extended(alloc, arena, q, code, known),
         None => Ok(None),
@@ -275,12 +277,12 @@ fn by_compose(
     g: &Group,
     arena: &Arena,
     held: &BTreeMap<u64, Held>,
-    marked: &BTreeSet<u64>,
+    marked: &Marks,
     p: u64,
     q: u64,
 ) -> Result<Option<Held>, NoMemory>
     requires held { AreFineAt arena.now held.now.entries }
-    requires marked { HaveCode g.now.code.ranges held.now.entries marked.now }
+    requires marked { AreMarked g.now.code.ranges held.now.entries marked.now }
     ensures { IfOk result (λ o. MadeIf arena.now
         (λ t. IsSomeAnd (theorem_at arena.now held.now.entries p) (λ p.
         IsSomeAnd (theorem_at arena.now held.now.entries q) (λ q. IsComposed p q t))) o) }

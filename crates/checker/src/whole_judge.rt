@@ -22,7 +22,7 @@ use verdicts::{
 use word_terms::Code;
 
 /// Lines that state whole triples, as they are spelled, with the further rule of their version.
-/// Nothing is kept of them.
+/// Nothing is kept of them. A line is boxed, since it is handed on often and is long.
 #[derive(Clone, Copy, Debug, Drop)]
 pub struct WholeLines;
 
@@ -32,11 +32,11 @@ impl RuledLines for WholeLines {
     ghost use Rattle.verdicts.specs.Further.{further_of};
     ghost use Rattle.verdicts.specs.LineRules.{whole_rules};
 
-    type Line = SpelledLine;
+    type Line = Box<SpelledLine>;
 
     ghost readers = { whole_readers };
 
-    ghost tree = { spelled_tree };
+    ghost tree = { λ own l. spelled_tree own l.value };
 
     ghost Behind = { λ s before. Unit {0} };
 
@@ -50,8 +50,11 @@ impl RuledLines for WholeLines {
         scan: &mut Scan<'a>,
         version: Version,
         own: &Code,
-    ) -> Result<SpelledLine, TokenError> {
-        SpelledLines.read(alloc, scan, version, own)
+    ) -> Result<Box<SpelledLine>, TokenError> {
+        match SpelledLines.read(alloc, scan, version, own) {
+            Ok(line) => Ok(Box::new(alloc, line)?),
+            Err(stop) => Err(stop),
+        }
     }
 }
 
@@ -69,7 +72,7 @@ impl<'g> JudgeLines<WholeLines> for Bench<'g> {
         alloc: Global,
         version: Version,
         _lines: &WholeLines,
-        line: SpelledLine,
+        line: Box<SpelledLine>,
     ) -> Result<bool, RuleFault> {
         judge_counted::<Brand>(self, alloc, version, &line, Blank::new(1))?;
         Ok(true)

@@ -7,11 +7,11 @@ ghost use Rattle.sep_assert.specs.Code.{Agree, IsWithin};
 use held_terms::Held;
 use sep_assert::{code_agree, code_within};
 
-/// Whether the theorem's code lies within that of the triple. Where they are known to be the same,
-/// nothing is compared.
-#[tactic(auto, using(held_definitions::proofs::MarkLemmas::within_same))]
+/// Whether the theorem's code lies within that of the triple. Where that is known, nothing is
+/// compared.
 pub fn has_code_within(known: bool, p: &Held, stated: &Held) -> bool
-    requires { IsTrue known → p.now.code.ranges ≡ stated.now.code.ranges }
+    requires { IsTrue known
+        → IsWithin (range_bytes p.now.code.ranges) (range_bytes stated.now.code.ranges) }
     ensures { IsTrue result
         ↔ IsWithin (range_bytes p.now.code.ranges) (range_bytes stated.now.code.ranges) }
 {

@@ -5,7 +5,7 @@ ghost use Rattle.std.specs.List.{Contains};
 ghost use Rattle.rv_words.specs.Bytes.{over};
 ghost use Rattle.rv_words.specs.Ranges.{AreRanges, range_bytes};
 ghost use Rattle.tailrec_lang.specs.Registers.{AreRegistersFrom};
-ghost use Rattle.sep_assert.specs.Code.{Agree};
+ghost use Rattle.sep_assert.specs.Code.{Agree, IsWithin};
 ghost use Rattle.triple_kernel.specs.Rules.{IsDischarged, IsStrengthened, IsWeakened};
 ghost use Rattle.frame_compose.specs.Rules.{AreMissing, AreWith, IsComposed, IsExtended, IsFramed, further, rest_after};
 ghost use Rattle.frame_compose.specs.Rules as spec;
@@ -28,7 +28,7 @@ use std::sync::ledger::Ledger;
 use term_arena::{Arena, Steps};
 use word_terms::Code;
 
-/// The triple of those parts, in memory of its own.
+/// The triple of those parts, which shares the code and the memories.
 fn with_parts(
     alloc: Global,
     facts: &[HeldFact],
@@ -45,7 +45,7 @@ fn with_parts(
     Held::new(alloc, facts, pre, code, post)
 }
 
-/// The theorem's triple over that code. Facts and code are shared.
+/// The theorem's triple over that code. Facts, memories and code are shared.
 fn over_code(alloc: Global, p: &Held, code: &Shared<Code>) -> Result<Held, NoMemory>
     ensures { IfOk result (λ t.
         HasParts t p.now.facts p.now.pre code.now.ranges p.now.post) }
@@ -62,7 +62,8 @@ fn over_code(alloc: Global, p: &Held, code: &Shared<Code>) -> Result<Held, NoMem
     })
 }
 
-/// More code, which is shared. Where the theorem is known to have it, nothing is compared.
+/// More code, which is shared. Where that of the theorem is known to lie within it, nothing is
+/// compared.
 pub fn extended(
     alloc: Global,
     arena: &Arena,
@@ -72,7 +73,8 @@ pub fn extended(
 ) -> Result<Option<Held>, NoMemory>
     requires p { IsFineHeld arena.now p.now }
     requires code { IsOwnCode code.now.ranges }
-    requires known { IsTrue known → p.now.code.ranges ≡ code.now.ranges }
+    requires known { IsTrue known
+        → IsWithin (range_bytes p.now.code.ranges) (range_bytes code.now.ranges) }
     ensures { IfOk result (λ o. MadeIf arena.now
         (λ t. IsExtended (triple_of arena.now p.now) t × (t.code ≡ code.now.ranges)) o) }
 {
@@ -366,13 +368,28 @@ fn with_further(
     ensures mems { IfOk result (λ s. s.mems ≡ side.now.mems ++ mems.now) }
 {
     let regs = merged(alloc, side.regs.as_slice(), regs)?;
-    let mut all = List::from_slice(alloc, side.mems.as_slice())?;
-    all.extend_from_slice(mems)?;
+    let mems = mems_with(alloc, &side.mems, mems)?;
     Ok(HeldSide {
         pc: side.pc,
         regs,
-        mems: all,
+        mems,
     })
+}
+
+/// The memories, with further ones behind them. Where there are none of these, they are shared.
+fn mems_with(
+    alloc: Global,
+    own: &Shared<List<u64>>,
+    mems: &[u64],
+) -> Result<Shared<List<u64>>, NoMemory>
+    ensures { IfOk result (λ all. all ≡ own.now ++ mems.now) }
+{
+    if mems.is_empty() {
+        return own.share();
+    }
+    let mut all = List::from_slice(alloc, own.as_slice())?;
+    all.extend_from_slice(mems)?;
+    Shared::new(alloc, all)
 }
 
 /// The registers of both lists, rising.

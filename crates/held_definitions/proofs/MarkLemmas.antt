@@ -1,4 +1,4 @@
--- Codes that are known to be the same, and theorems that are marked as having the group's own.
+-- Codes that are known to be the same, and theorems that are marked, since it is known how their code lies in the group's own.
 use Rattle.std.proofs.Common.{◌≡◌, ℕ, Bool, true, false, true≢false, cond, Option, Some, None, List, [], refl, sym, ap, ◌∙◌, subst}
 use Rattle.std.specs.Prelude.{◌↔◌, IfSome}
 use Rattle.std.specs.BTreeSet.{BTreeSet, contains}
@@ -14,7 +14,7 @@ use Rattle.sep_assert.proofs.CodeLemmas as code
 use Rattle.frame_compose.proofs.UnionLemmas.{covered_by_first, covered_by_second, union-within}
 use Rattle.held_terms.specs.declared.held.Held.{Held}
 use Rattle.held_definitions.specs.Theorems.{Theorems, held_by_number}
-use Rattle.held_definitions.specs.inner.Marks.{Changes, HaveCode, HaveSameCode}
+use Rattle.held_definitions.specs.inner.Marks.{AreAll, Changes, HasCode, HasWithin, HaveSameCode}
 
 -- ---- codes that are the same
 
@@ -80,38 +80,40 @@ union_second xs ys zs e = (
 -- ---- marked theorems
 
 -- no theorem is marked
-pub none_marked : (own : List Range) (held : Theorems) (marked : BTreeSet ℕ) → marked.keys ≡ [] → HaveCode own held marked
-none_marked own held marked none = λ k e. absurd (true≢false (sym e ∙ ap (λ (ks : List ℕ). list_any (is_at (nat_cmp k)) ks) none))
+pub none_marked : (P : Held → Type 0) (held : Theorems) (marked : BTreeSet ℕ) → marked.keys ≡ [] → AreAll P held marked
+none_marked P held marked none = λ k e. absurd (true≢false (sym e ∙ ap (λ (ks : List ℕ). list_any (is_at (nat_cmp k)) ks) none))
+
+-- the code of a theorem that is marked lies within the group's own, where it has that too
+pub own_within : (code : List Range) (o : Option Held) → IfSome o (HasCode code) → IfSome o (HasWithin code)
+own_within code None is = tt
+own_within code (Some h) is = within_same h.code.ranges code is
 
 -- the set of marks after a change of one of them
 abbrev pub MarkIs : BTreeSet ℕ → BTreeSet ℕ → ℕ → Bool → Type 0
 MarkIs old new k b = (q : ℕ) → contains nat_cmp new q ≡ cond (is_at (nat_cmp k) q) b (contains nat_cmp old q)
 
-module _ (own : List Range) where
-  abbrev Has : Option Held → Type 0
-  Has o = IfSome o (λ h. h.code.ranges ≡ own)
-
-  less-at : (b was now : Bool) (o p w : Option Held) → now ≡ cond b false was → p ≡ cond b w o → (was ≡ true → Has o) → now ≡ true → Has p
+module _ (P : Held → Type 0) where
+  less-at : (b was now : Bool) (o p w : Option Held) → now ≡ cond b false was → p ≡ cond b w o → (was ≡ true → IfSome o P) → now ≡ true → IfSome p P
   less-at true was now o p w less change has e = absurd (true≢false (sym e ∙ less))
-  less-at false was now o p w less change has e = subst Has (sym change) (has (sym less ∙ e))
+  less-at false was now o p w less change has e = subst (λ (x : Option Held). IfSome x P) (sym change) (has (sym less ∙ e))
 
-  more-at : (b was now : Bool) (o p : Option Held) (h : Held) → now ≡ cond b true was → p ≡ cond b (Some h) o → h.code.ranges ≡ own → (was ≡ true → Has p) → now ≡ true → Has p
-  more-at true was now o p h more change is has e = subst Has (sym change) is
+  more-at : (b was now : Bool) (o p : Option Held) (h : Held) → now ≡ cond b true was → p ≡ cond b (Some h) o → P h → (was ≡ true → IfSome p P) → now ≡ true → IfSome p P
+  more-at true was now o p h more change is has e = subst (λ (x : Option Held). IfSome x P) (sym change) is
   more-at false was now o p h more change is has e = has (sym more ∙ e)
 
-  same-at : (b was now : Bool) (o : Option Held) → now ≡ cond b false was → (was ≡ true → Has o) → now ≡ true → Has o
+  same-at : (b was now : Bool) (o : Option Held) → now ≡ cond b false was → (was ≡ true → IfSome o P) → now ≡ true → IfSome o P
   same-at true was now o less has e = absurd (true≢false (sym e ∙ less))
   same-at false was now o less has e = has (sym less ∙ e)
 
   -- one mark less, of the same theorems or of those that changed at that number
-  pub unmarked : (held : Theorems) (old new : BTreeSet ℕ) (k : ℕ) → MarkIs old new k false → HaveCode own held old → HaveCode own held new
+  pub unmarked : (held : Theorems) (old new : BTreeSet ℕ) (k : ℕ) → MarkIs old new k false → AreAll P held old → AreAll P held new
   unmarked held old new k less have = λ q. same-at (is_at (nat_cmp k) q) (contains nat_cmp old q) (contains nat_cmp new q) (held_by_number held q) (less q) (have q)
 
-  pub unmarked_changed : (held more : Theorems) (old new : BTreeSet ℕ) (k : ℕ) (w : Option Held) → MarkIs old new k false → Changes held more k w → HaveCode own held old → HaveCode own more new
+  pub unmarked_changed : (held more : Theorems) (old new : BTreeSet ℕ) (k : ℕ) (w : Option Held) → MarkIs old new k false → Changes held more k w → AreAll P held old → AreAll P more new
   unmarked_changed held more old new k w less change have = λ q.
       less-at (is_at (nat_cmp k) q) (contains nat_cmp old q) (contains nat_cmp new q) (held_by_number held q) (held_by_number more q) w (less q) (change q) (have q)
 
   -- one mark more, of the theorem that came
-  pub marked_more : (held more : Theorems) (old new : BTreeSet ℕ) (k : ℕ) (h : Held) → MarkIs old new k true → Changes held more k (Some h) → h.code.ranges ≡ own → HaveCode own more old → HaveCode own more new
+  pub marked_more : (held more : Theorems) (old new : BTreeSet ℕ) (k : ℕ) (h : Held) → MarkIs old new k true → Changes held more k (Some h) → P h → AreAll P more old → AreAll P more new
   marked_more held more old new k h mark change is have = λ q.
       more-at (is_at (nat_cmp k) q) (contains nat_cmp old q) (contains nat_cmp new q) (held_by_number held q) (held_by_number more q) h (mark q) (change q) is (have q)

@@ -16,19 +16,20 @@ ghost use Rattle.held_terms.specs.Terms.{fact_terms, nodes_of};
 ghost use Rattle.held_definitions.specs.inner.Asked.{AreAsked, AreFound, Begins, KnowsOf, KnowsPlaces, LeadsOver, StaysAsked, StaysFor, closing_with};
 ghost use Rattle.held_terms.specs.inner.Put.{AreFactsPut};
 ghost use Rattle.held_definitions.specs.inner.Leaves.{AreFirstOf, leaf_over};
-ghost use Rattle.held_definitions.specs.inner.Marks.{HaveCode};
+ghost use Rattle.held_definitions.specs.inner.Marks.{AreMarked, HasWithin};
 ghost use Rattle.rv_words.specs.Ranges.{range_bytes};
 ghost use Rattle.sep_assert.specs.Code.{IsWithin};
 
 use crate::asked::{Asked, Places};
 use crate::exits::is_entry;
+use crate::marks::Marks;
 use crate::theorems::theorem;
 use held_terms::{Held, HeldFact, HeldSide, Way, put_facts, put_side, same_side};
 use loop_rule::{JudgeLeaves, cite_for_leaves};
 use rv_words::{List, NoMemory};
 use sep_assert::{Assertion, code_within};
 use std::alloc::Global;
-use std::collections::{BTreeMap, BTreeSet};
+use std::collections::BTreeMap;
 use std::sync::ledger::Ledger;
 use tailrec_lang::{Def, Group, def_at};
 use term_arena::{Arena, Steps};
@@ -42,8 +43,8 @@ pub(crate) struct HeldLeaves<'a, L: Ledger> {
     pub group: &'a Group,
     pub def: &'a Def,
     pub held: &'a BTreeMap<u64, Held>,
-    /// Theorems that have the group's own code.
-    pub marked: &'a BTreeSet<u64>,
+    /// Which of them have the group's own code, and whose code lies within it.
+    pub marked: &'a Marks,
     /// The facts of the way.
     pub way: &'a mut List<Fact>,
     /// The first of them, of the numbers of their terms.
@@ -99,13 +100,13 @@ pub fn is_closed_by<L: Ledger>(
     g: &Group,
     arena: &mut Arena,
     held: &BTreeMap<u64, Held>,
-    marked: &BTreeSet<u64>,
+    marked: &Marks,
     def: u32,
     cited: &[u64],
     steps: &mut Steps<L>,
 ) -> Result<bool, NoMemory>
     requires held { AreHeldAt arena.old held.now.entries }
-    requires marked { HaveCode g.now.code.ranges held.now.entries marked.now }
+    requires marked { AreMarked g.now.code.ranges held.now.entries marked.now }
     ensures answer { IfOk result (λ r.
         IsTrue r
         ↔ IsClosedBy (group_tree g.now) def (map (theorem_at arena.old held.now.entries)
@@ -184,13 +185,13 @@ fn led_by<L: Ledger>(
     way: &mut Way,
     post: &HeldSide,
     held: &BTreeMap<u64, Held>,
-    marked: &BTreeSet<u64>,
+    marked: &Marks,
     number: u64,
     asked: &mut Asked,
     steps: &mut Steps<L>,
 ) -> Result<bool, NoMemory>
     requires held { AreHeldAt arena.now held.now.entries }
-    requires marked { HaveCode g.now.code.ranges held.now.entries marked.now }
+    requires marked { AreMarked g.now.code.ranges held.now.entries marked.now }
     requires way { AreFactsAt arena.now way.old }
     requires post { IsSideAt arena.now post.now }
     requires asked { AreAsked
@@ -208,18 +209,18 @@ fn led_by<L: Ledger>(
 {
     match theorem(arena, held, number) {
         Some(p) => {
-            let own = marked.contains(&number);
+            let within = marked.is_within(number);
             Ok(
                 same_side(arena, &p.post, post)
-                    && leads(alloc, arena, g, def, way, p, own, number, asked, steps)?,
+                    && leads(alloc, arena, g, def, way, p, within, number, asked, steps)?,
             )
         }
         None => Ok(false),
     }
 }
 
-/// Whether the theorem, which has that number, leads from the definition's entry over the way. It
-/// has the group's own code where `own` says so.
+/// Whether the theorem, which has that number, leads from the definition's entry over the way. Its
+/// code lies within the group's own where `within` says so.
 fn leads<L: Ledger>(
     alloc: Global,
     arena: &Arena,
@@ -227,14 +228,14 @@ fn leads<L: Ledger>(
     def: &Def,
     way: &mut Way,
     p: &Held,
-    own: bool,
+    within: bool,
     number: u64,
     asked: &mut Asked,
     steps: &mut Steps<L>,
 ) -> Result<bool, NoMemory>
     requires way { AreFactsAt arena.now way.old }
     requires p { IsHeldAt arena.now p.now }
-    requires own { IsTrue own → p.now.code.ranges ≡ g.now.code.ranges }
+    requires within { IsTrue within → HasWithin g.now.code.ranges p.now }
     requires known { KnowsOf (group_tree g.now) (def_tree def.now) (map (fact_of arena.now) way.old)
         number asked.old (triple_of arena.now p.now) }
     ensures answer { IfOk result (λ r.
@@ -249,7 +250,7 @@ fn leads<L: Ledger>(
     if asked.leads(number) {
         return Ok(true);
     }
-    if begins(arena, g, def, p, own, number, asked, steps) {
+    if begins(arena, g, def, p, within, number, asked, steps) {
         return has_facts(alloc, arena, way, p, number, asked);
     }
     Ok(false)
@@ -262,13 +263,13 @@ fn begins<L: Ledger>(
     g: &Group,
     def: &Def,
     p: &Held,
-    own: bool,
+    within: bool,
     number: u64,
     asked: &Asked,
     steps: &mut Steps<L>,
 ) -> bool
     requires p { IsHeldAt arena.now p.now }
-    requires own { IsTrue own → p.now.code.ranges ≡ g.now.code.ranges }
+    requires within { IsTrue within → HasWithin g.now.code.ranges p.now }
     ensures found { IsTrue result
         → IsSome (get nat_cmp asked.now.theorems number)
         ⊎ Begins (group_tree g.now) (def_tree def.now) (triple_of arena.now p.now) }
@@ -277,7 +278,7 @@ fn begins<L: Ledger>(
         → ⊥ }
     ensures steps { steps.new ≤ steps.old + (1 + (length g.now.regs + g.now.mems)) }
 {
-    asked.begins(number) || is_entry(arena, g, def, &p.pre, steps) && is_within_own(g, own, p)
+    asked.begins(number) || is_entry(arena, g, def, &p.pre, steps) && is_within_own(g, within, p)
 }
 
 /// Whether the theorem's facts are on the way, where it is one of that number which begins at the
@@ -373,13 +374,12 @@ fn find_fact(
     Ok(true)
 }
 
-/// Whether the theorem's code lies within the group's own. Where it is known to be that, nothing is
+/// Whether the theorem's code lies within the group's own. Where that is known, nothing is
 /// compared.
-#[tactic(auto, using(crate::proofs::MarkLemmas::within_same))]
-fn is_within_own(g: &Group, own: bool, p: &Held) -> bool
-    requires { IsTrue own → p.now.code.ranges ≡ g.now.code.ranges }
+fn is_within_own(g: &Group, known: bool, p: &Held) -> bool
+    requires { IsTrue known → HasWithin g.now.code.ranges p.now }
     ensures { IsTrue result
         ↔ IsWithin (range_bytes p.now.code.ranges) (range_bytes g.now.code.ranges) }
 {
-    own || code_within(p.code.as_ref(), &g.code)
+    known || code_within(p.code.as_ref(), &g.code)
 }

@@ -205,7 +205,7 @@ fn side_with(
 {
     let regs = registers_with(alloc, g.regs.as_slice(), words)?;
     let mems = List::from_slice(alloc, mems)?;
-    Ok(HeldSide { pc, regs, mems })
+    HeldSide::new(alloc, pc, regs, mems)
 }
 
 /// Each register beside its word.

@@ -11,9 +11,11 @@ mod asked;
 mod closing;
 mod exit_triples;
 mod exits;
+mod marks;
 mod theorems;
 
 pub use closing::is_closed_by;
 pub use exit_triples::exit_held;
 pub use exits::{is_entry, is_exit};
+pub use marks::Marks;
 pub use theorems::theorem;

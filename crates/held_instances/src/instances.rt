@@ -302,11 +302,7 @@ fn side_image<L: Ledger>(
         side.mems.as_slice(),
         steps,
     )?;
-    Ok(HeldSide {
-        pc,
-        regs,
-        mems: memories,
-    })
+    HeldSide::new(alloc, pc, regs, memories)
 }
 
 /// Terms for the variables of a theorem, all put in at once. Its code stays: whether the stated one

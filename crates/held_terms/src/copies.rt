@@ -54,12 +54,12 @@ pub fn copy_facts(alloc: Global, facts: &[HeldFact]) -> Result<List<HeldFact>, N
     Ok(copies)
 }
 
-/// The same assertion in memory of its own.
+/// The same assertion, whose memories are shared.
 pub fn copy_side(alloc: Global, side: &HeldSide) -> Result<HeldSide, NoMemory>
     ensures { IfOk result (λ copy. copy ≡ side.now) }
 {
     let regs = List::from_slice(alloc, side.regs.as_slice())?;
-    let mems = List::from_slice(alloc, side.mems.as_slice())?;
+    let mems = side.mems.share()?;
     Ok(HeldSide {
         pc: side.pc,
         regs,

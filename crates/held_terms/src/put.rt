@@ -139,7 +139,7 @@ pub fn put_side<L: Ledger>(
     let pc = put_word(arena, &side.pc, steps)?;
     let regs = put_registers(alloc, arena, side.regs.as_slice(), steps)?;
     let mems = put_mems(alloc, arena, side.mems.as_slice(), steps)?;
-    Ok(HeldSide { pc, regs, mems })
+    HeldSide::new(alloc, pc, regs, mems)
 }
 
 fn put_registers<L: Ledger>(

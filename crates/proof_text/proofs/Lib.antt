@@ -1,6 +1,7 @@
 pub mod ProofParts
 pub mod SameRanges
 pub mod Keyed
+pub mod NoAtom
 pub mod FurtherWords
 pub mod FactLaws
 pub mod TripleLaws

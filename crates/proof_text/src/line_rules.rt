@@ -11,20 +11,20 @@ use crate::line::Rule;
 use crate::line_heads::{RuleHead, axiom_form_of, rule_head_of};
 use crate::line_subs::{Put, puts_rise, read_subs, sub_of};
 use group_text::read_index;
-use mc_text::cursor::{accept, address, keyword, peek};
-use mc_text::{Scan, Token, TokenError, dec, hexnum};
+use mc_text::cursor::{accept, address, keyword};
+use mc_text::{Scan, TokenError, dec, hexnum};
 use std::alloc::Global;
 use triple_kernel::Form;
 
 /// The number of a theorem.
-#[tactic(auto, unfolding(mc_text::specs::Reading::one))]
+#[tactic(auto, unfolding(mc_text::specs::Reading::one), using(mc_text::proofs::AtomAhead::no_atom_of))]
 pub fn read_theorem<'a>(scan: &mut Scan<'a>) -> Result<u64, TokenError>
     ensures gives { Gives (λ n. n) result scan.old scan.new theorem_at }
     ensures last { last_line scan.new ≡ last_line scan.old }
 {
-    match peek(scan) {
-        Some((Token::Atom(atom), ahead)) => accept(scan, ahead, dec(atom)),
-        _ => Err(TokenError::Bad),
+    match scan.atom_ahead() {
+        Some((atom, ahead)) => accept(scan, ahead, dec(atom)),
+        None => Err(TokenError::Bad),
     }
 }
 
@@ -39,26 +39,26 @@ fn instruction_of(atom: &[u8]) -> Option<u32>
 }
 
 /// An instruction word.
-#[tactic(auto, unfolding(mc_text::specs::Reading::one))]
+#[tactic(auto, unfolding(mc_text::specs::Reading::one), using(mc_text::proofs::AtomAhead::no_atom_of))]
 pub fn read_instruction<'a>(scan: &mut Scan<'a>) -> Result<u32, TokenError>
     ensures gives { Gives (λ n. n) result scan.old scan.new (one (atom_of instruction_of)) }
     ensures last { last_line scan.new ≡ last_line scan.old }
 {
-    match peek(scan) {
-        Some((Token::Atom(atom), ahead)) => accept(scan, ahead, instruction_of(atom)),
-        _ => Err(TokenError::Bad),
+    match scan.atom_ahead() {
+        Some((atom, ahead)) => accept(scan, ahead, instruction_of(atom)),
+        None => Err(TokenError::Bad),
     }
 }
 
 /// How an instruction goes on.
-#[tactic(auto, unfolding(mc_text::specs::Reading::one))]
+#[tactic(auto, unfolding(mc_text::specs::Reading::one), using(mc_text::proofs::AtomAhead::no_atom_of))]
 pub fn read_form<'a>(scan: &mut Scan<'a>) -> Result<Form, TokenError>
     ensures gives { Gives (λ form. form) result scan.old scan.new (one (atom_of axiom_form_of)) }
     ensures last { last_line scan.new ≡ last_line scan.old }
 {
-    match peek(scan) {
-        Some((Token::Atom(name), ahead)) => accept(scan, ahead, axiom_form_of(name)),
-        _ => Err(TokenError::Bad),
+    match scan.atom_ahead() {
+        Some((name, ahead)) => accept(scan, ahead, axiom_form_of(name)),
+        None => Err(TokenError::Bad),
     }
 }
 
@@ -98,14 +98,14 @@ fn read_inst<'a>(alloc: Global, scan: &mut Scan<'a>) -> Result<(u64, Vec<Put>), 
 }
 
 /// The name of a rule.
-#[tactic(auto, unfolding(mc_text::specs::Reading::one))]
+#[tactic(auto, unfolding(mc_text::specs::Reading::one), using(mc_text::proofs::AtomAhead::no_atom_of))]
 fn rule_name<'a>(scan: &mut Scan<'a>) -> Result<RuleHead, TokenError>
     ensures gives { Gives (λ h. h) result scan.old scan.new (one (atom_of rule_head_of)) }
     ensures last { last_line scan.new ≡ last_line scan.old }
 {
-    match peek(scan) {
-        Some((Token::Atom(name), ahead)) => accept(scan, ahead, rule_head_of(name)),
-        _ => Err(TokenError::Bad),
+    match scan.atom_ahead() {
+        Some((name, ahead)) => accept(scan, ahead, rule_head_of(name)),
+        None => Err(TokenError::Bad),
     }
 }
 

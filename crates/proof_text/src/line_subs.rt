@@ -9,8 +9,8 @@ ghost use Rattle.proof_text.specs.inner.Subs.{put_tree};
 
 use crate::line_heads::{SubHead, sub_head_of};
 use group_text::{read_mem, read_word};
-use mc_text::cursor::{accept, is_open, left, peek, right};
-use mc_text::{Scan, Token, TokenError};
+use mc_text::cursor::{accept, is_open, left, right};
+use mc_text::{Scan, TokenError};
 use rv_words::{List, NoMemory};
 use std::alloc::Global;
 use word_terms::{DEPTH_LIMIT, Mem, Sub, Word};
@@ -23,14 +23,14 @@ pub enum Put {
 }
 
 /// The variable, after its parenthesis.
-#[tactic(auto, unfolding(mc_text::specs::Reading::one))]
+#[tactic(auto, unfolding(mc_text::specs::Reading::one), using(mc_text::proofs::AtomAhead::no_atom_of))]
 fn sub_name<'a>(scan: &mut Scan<'a>) -> Result<SubHead, TokenError>
     ensures gives { Gives (λ h. h) result scan.old scan.new (one (atom_of sub_head_of)) }
     ensures last { last_line scan.new ≡ last_line scan.old }
 {
-    match peek(scan) {
-        Some((Token::Atom(name), ahead)) => accept(scan, ahead, sub_head_of(name)),
-        _ => Err(TokenError::Bad),
+    match scan.atom_ahead() {
+        Some((name, ahead)) => accept(scan, ahead, sub_head_of(name)),
+        None => Err(TokenError::Bad),
     }
 }
 

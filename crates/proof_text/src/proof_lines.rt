@@ -141,11 +141,12 @@ pub fn read_spelled<'a>(
 }
 
 /// Whether the next group follows or the line that ends the text, to go by the first word.
+#[tactic(auto, using(crate::proofs::NoAtom::no_end))]
 pub fn ends_proof(scan: &Scan<'_>) -> bool
     ensures { result ≡ goes_on ends_proof (tokens_at scan.now) }
 {
-    match peek(scan) {
-        Some((Token::Atom(name), _)) => name == b"group".as_slice() || name == b"end".as_slice(),
-        _ => false,
+    match scan.atom_ahead() {
+        Some((name, _)) => name == b"group".as_slice() || name == b"end".as_slice(),
+        None => false,
     }
 }

@@ -1,3 +1,4 @@
+pub mod NoAtom
 pub mod KindLaws
 pub mod TermRefs
 pub mod NodeLaws

@@ -11,8 +11,8 @@ use crate::kind::Kind;
 use crate::terms::{read_term, read_terms};
 use group_text::read_index;
 use held_terms::{HeldFact, HeldValues};
-use mc_text::cursor::{accept, is_open, left, peek, right, semi};
-use mc_text::{Scan, Token, TokenError};
+use mc_text::cursor::{accept, is_open, left, right, semi};
+use mc_text::{Scan, TokenError};
 use rv_words::List;
 use std::alloc::Global;
 use term_arena::Node;
@@ -52,14 +52,14 @@ fn read_results<'a>(
 }
 
 /// The name of a form of a fact.
-#[tactic(auto, unfolding(mc_text::specs::Reading::one))]
+#[tactic(auto, unfolding(mc_text::specs::Reading::one), using(mc_text::proofs::AtomAhead::no_atom_of))]
 fn fact_name<'a>(scan: &mut Scan<'a>) -> Result<FactName, TokenError>
     ensures gives { Gives (λ h. h) result scan.old scan.new (one (atom_of fact_name_of)) }
     ensures last { last_line scan.new ≡ last_line scan.old }
 {
-    match peek(scan) {
-        Some((Token::Atom(name), ahead)) => accept(scan, ahead, fact_name_of(name)),
-        _ => Err(TokenError::Bad),
+    match scan.atom_ahead() {
+        Some((name, ahead)) => accept(scan, ahead, fact_name_of(name)),
+        None => Err(TokenError::Bad),
     }
 }
 

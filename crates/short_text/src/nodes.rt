@@ -29,14 +29,14 @@ fn node_leaf_of(atom: &[u8]) -> Option<Node>
 }
 
 /// The name of a form.
-#[tactic(auto, unfolding(mc_text::specs::Reading::one))]
+#[tactic(auto, unfolding(mc_text::specs::Reading::one), using(mc_text::proofs::AtomAhead::no_atom_of))]
 fn node_name<'a>(scan: &mut Scan<'a>) -> Result<NodeHead, TokenError>
     ensures gives { Gives (λ h. h) result scan.old scan.new (one (atom_of node_head_of)) }
     ensures last { last_line scan.new ≡ last_line scan.old }
 {
-    match peek(scan) {
-        Some((Token::Atom(name), ahead)) => accept(scan, ahead, node_head_of(name)),
-        _ => Err(TokenError::Bad),
+    match scan.atom_ahead() {
+        Some((name, ahead)) => accept(scan, ahead, node_head_of(name)),
+        None => Err(TokenError::Bad),
     }
 }
 

@@ -9,8 +9,8 @@ ghost use Rattle.short_text.specs.inner.ShortReading.{mem_places, place_at, plac
 use crate::kind::Kind;
 use crate::terms::read_term;
 use group_text::variable_of;
-use mc_text::cursor::{accept, is_open, left, peek, right};
-use mc_text::{Scan, Token, TokenError};
+use mc_text::cursor::{accept, is_open, left, right};
+use mc_text::{Scan, TokenError};
 use rv_words::{List, NoMemory};
 use std::alloc::Global;
 use term_arena::Node;
@@ -37,14 +37,14 @@ fn place_of(name: &[u8]) -> Option<Place>
 }
 
 /// The variable, after its parenthesis.
-#[tactic(auto, unfolding(mc_text::specs::Reading::one))]
+#[tactic(auto, unfolding(mc_text::specs::Reading::one), using(mc_text::proofs::AtomAhead::no_atom_of))]
 fn place_name<'a>(scan: &mut Scan<'a>) -> Result<Place, TokenError>
     ensures gives { Gives (λ h. h) result scan.old scan.new (one (atom_of place_of)) }
     ensures last { last_line scan.new ≡ last_line scan.old }
 {
-    match peek(scan) {
-        Some((Token::Atom(name), ahead)) => accept(scan, ahead, place_of(name)),
-        _ => Err(TokenError::Bad),
+    match scan.atom_ahead() {
+        Some((name, ahead)) => accept(scan, ahead, place_of(name)),
+        None => Err(TokenError::Bad),
     }
 }
 

@@ -225,14 +225,14 @@ fn read_forget<'a>(scan: &mut Scan<'a>) -> Result<Short, TokenError>
 // ---- lines
 
 /// The first word of a line.
-#[tactic(auto, unfolding(mc_text::specs::Reading::one))]
+#[tactic(auto, unfolding(mc_text::specs::Reading::one), using(mc_text::proofs::AtomAhead::no_atom_of))]
 fn short_name<'a>(scan: &mut Scan<'a>) -> Result<ShortHead, TokenError>
     ensures gives { Gives (λ h. h) result scan.old scan.new (one (atom_of short_head_of)) }
     ensures last { last_line scan.new ≡ last_line scan.old }
 {
-    match peek(scan) {
-        Some((Token::Atom(name), ahead)) => accept(scan, ahead, short_head_of(name)),
-        _ => Err(TokenError::Bad),
+    match scan.atom_ahead() {
+        Some((name, ahead)) => accept(scan, ahead, short_head_of(name)),
+        None => Err(TokenError::Bad),
     }
 }
 

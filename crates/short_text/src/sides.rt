@@ -102,7 +102,7 @@ pub fn read_held_side<'a>(
     semi(scan)?;
     let mems = read_terms(alloc, scan, table, Kind::Mem)?;
     right(scan)?;
-    let side = HeldSide { pc, regs, mems };
+    let side = HeldSide::new(alloc, pc, regs, mems)?;
     if !side_rises(&side) {
         return Err(TokenError::Bad);
     }

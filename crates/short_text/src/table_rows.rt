@@ -9,17 +9,18 @@ ghost use Rattle.short_text.specs.inner.ShortReading.{is_term, may_follow, node_
 
 use crate::nodes::read_node;
 use crate::table::Table;
-use mc_text::cursor::{eol, keyword, peek};
-use mc_text::{Scan, Token, TokenError};
+use mc_text::cursor::{eol, keyword};
+use mc_text::{Scan, TokenError};
 use term_arena::Node;
 
 /// Whether a line of a table follows.
+#[tactic(auto, using(crate::proofs::NoAtom::no_term))]
 pub fn begins_term(scan: &Scan<'_>) -> bool
     ensures { result ≡ goes_on is_term (tokens_at scan.now) }
 {
-    match peek(scan) {
-        Some((Token::Atom(name), _)) => name == b"term".as_slice(),
-        _ => false,
+    match scan.atom_ahead() {
+        Some((name, _)) => name == b"term".as_slice(),
+        None => false,
     }
 }
 

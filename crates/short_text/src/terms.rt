@@ -8,8 +8,8 @@ ghost use Rattle.short_text.specs.inner.ShortReading.{any_term_at, lettered, num
 
 use crate::kind::{Kind, has_kind};
 use group_text::has_atom;
-use mc_text::cursor::{accept, peek};
-use mc_text::{Scan, Token, TokenError, dec};
+use mc_text::cursor::accept;
+use mc_text::{Scan, TokenError, dec};
 use rv_words::List;
 use std::alloc::Global;
 use term_arena::Node;
@@ -43,26 +43,26 @@ fn number_of_kind(table: &[Node], kind: Kind, atom: &[u8]) -> Option<u64>
 }
 
 /// The number of a term of that kind.
-#[tactic(auto, unfolding(mc_text::specs::Reading::one))]
+#[tactic(auto, unfolding(mc_text::specs::Reading::one), using(mc_text::proofs::AtomAhead::no_atom_of))]
 pub fn read_term<'a>(scan: &mut Scan<'a>, table: &[Node], kind: Kind) -> Result<u64, TokenError>
     ensures gives { Gives (λ k. k) result scan.old scan.new (term_at table.now kind) }
     ensures last { last_line scan.new ≡ last_line scan.old }
 {
-    match peek(scan) {
-        Some((Token::Atom(atom), ahead)) => accept(scan, ahead, number_of_kind(table, kind, atom)),
-        _ => Err(TokenError::Bad),
+    match scan.atom_ahead() {
+        Some((atom, ahead)) => accept(scan, ahead, number_of_kind(table, kind, atom)),
+        None => Err(TokenError::Bad),
     }
 }
 
 /// The number of a term, whatever the table has there.
-#[tactic(auto, unfolding(mc_text::specs::Reading::one))]
+#[tactic(auto, unfolding(mc_text::specs::Reading::one), using(mc_text::proofs::AtomAhead::no_atom_of))]
 pub fn read_any_term<'a>(scan: &mut Scan<'a>) -> Result<u64, TokenError>
     ensures gives { Gives (λ k. k) result scan.old scan.new any_term_at }
     ensures last { last_line scan.new ≡ last_line scan.old }
 {
-    match peek(scan) {
-        Some((Token::Atom(atom), ahead)) => accept(scan, ahead, lettered(atom)),
-        _ => Err(TokenError::Bad),
+    match scan.atom_ahead() {
+        Some((atom, ahead)) => accept(scan, ahead, lettered(atom)),
+        None => Err(TokenError::Bad),
     }
 }
 

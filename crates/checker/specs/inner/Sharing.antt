@@ -1,5 +1,6 @@
 -- Which theorems give their code to those that a rule makes of them.
-use Rattle.std.specs.Prelude.{◌≡◌, ◌&&◌, ℕ, Bool, true, false, List, Option, Some, None}
+use Rattle.std.specs.Prelude.{◌≡◌, ◌&&◌, ℕ, Bool, true, false, List, Option, Some, None, IfSome, IsSomeAnd}
+use Rattle.rv_words.specs.declared.range.Range.{Range}
 use Rattle.tailrec_lang.specs.Tree.{GroupTree}
 use Rattle.triple_kernel.specs.Tree.{TripleTree}
 use Rattle.term_arena.specs.declared.node.Node.{Node}
@@ -20,6 +21,24 @@ code_giver (Strengthen p) = Some p
 code_giver (Weaken p) = Some p
 code_giver (Discharge p) = Some p
 code_giver (UseExit def exit) = None
+
+-- .. or a short line
+abbrev pub short_giver : Short → Option ℕ
+short_giver (short.Axiom address word form) = None
+short_giver (short.Inst p words mems) = Some p
+short_giver (short.Frame p regs mems) = Some p
+short_giver (short.ExtendCode p code) = None
+short_giver (short.Compose p q) = None
+short_giver (short.Strengthen p facts pre) = Some p
+short_giver (short.Weaken p facts post) = Some p
+short_giver (short.Discharge p facts) = Some p
+short_giver (short.UseExit def exit) = None
+short_giver (short.Loop def cited) = None
+short_giver (short.Forget k) = None
+
+-- the code is that of the theorem which gives it, if there is one
+abbrev pub IsGiven : History → Option ℕ → List Range → Type 0
+IsGiven h giver code = IfSome giver (λ p. IsSomeAnd (h.theorem p) (λ q. q.code ≡ code))
 
 -- whether the triple that a short line states has the group's own code where the theorems with these numbers have it, and `all` stands for
 -- that code

@@ -13,7 +13,7 @@ use Rattle.loop_rule.specs.Judge.{Judge}
 use Rattle.held_definitions.specs.declared.closing.HeldLeaves.{HeldLeaves}
 use Rattle.held_definitions.specs.Theorems.{AreHeldAt, theorem_at}
 use Rattle.held_definitions.specs.inner.Asked.{AreAsked, closing_with}
-use Rattle.held_definitions.specs.inner.Marks.{HaveCode}
+use Rattle.held_definitions.specs.inner.Marks.{AreMarked}
 use Rattle.held_definitions.specs.ClosingTerms.{leaf_terms}
 use Rattle.held_terms.specs.Terms.{nodes_of}
 
@@ -27,11 +27,10 @@ pub record AreFirstOf (ns : List Node) (put : List HeldFact) (way : List FactTre
   pub rest : List FactTree
   pub is : way ≡ map (fact_of ns) put ++ rest
 
--- the theorems' numbers are there, and those of the facts that were put; what is kept of theorems is right, and marked ones have the
--- group's own code
+-- the theorems' numbers are there, and those of the facts that were put; what is kept of theorems is right, and the marks are right
 pub record IsReady {L : Type 0} (k : HeldLeaves L) : Type 0 where
   pub held : AreHeldAt k.arena.now k.held.now.entries
-  pub marked : HaveCode k.group.now.code.ranges k.held.now.entries k.marked.now
+  pub marked : AreMarked k.group.now.code.ranges k.held.now.entries k.marked.now
   pub first : AreFirstOf k.arena.now k.put.now (map fact_tree k.way.now)
   pub asked : AreAsked (closing_with (group_tree k.group.now) (def_tree k.def.now) (theorem_at k.arena.now k.held.now.entries)) (map fact_tree k.way.now) k.asked.now
 

@@ -1,6 +1,14 @@
+use Rattle.std.proofs.Common.{List, sym, subst}
+use Rattle.rv_words.specs.Ranges.{range_bytes}
+use Rattle.rv_words.specs.declared.range.Range.{Range}
+use Rattle.sep_assert.specs.Code.{IsWithin}
 use Rattle.derived_triples.proofs.MakingLemmas.{extended_made, none_extended}
 use Rattle.derived_triples.proofs.Merging.{never}
 use Rattle.derived_triples.proofs.making.extended.Goals as goal
+
+pub has_code_within-requires : goal.has_code_within-requires
+has_code_within-requires c = λ known.
+    subst (λ (r : List Range). IsWithin (range_bytes c.args.p.now.code.ranges) (range_bytes r)) (sym c.in_ok-t.ensures.2) (c.requires.known known)
 
 pub returns-then-not-has_code_within : goal.returns-then-not-has_code_within
 returns-then-not-has_code_within c =

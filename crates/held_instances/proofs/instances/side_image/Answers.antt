@@ -1,9 +1,10 @@
 use Rattle.std.proofs.Common.{ℕ, List, sym, subst}
 use Rattle.std.specs.List.{AllZip}
+use Rattle.std.proofs.lemmas.Result.{IfOk-weaker}
 use Rattle.term_arena.proofs.TreeLemmas.{number_within}
 use Rattle.held_terms.specs.Held.{AreRegistersAt}
 use Rattle.held_instances.specs.Image.{put_for_numbers}
-use Rattle.held_instances.specs.inner.Instances.{AreWithin, AreImagesOf, IsRegisterImage}
+use Rattle.held_instances.specs.inner.Instances.{AreWithin, AreImagesOf, IsRegisterImage, IsSideImage}
 use Rattle.held_terms.specs.Subterms.{HasRegisters, HasSide, HasTerms}
 use Rattle.held_instances.specs.inner.Imaging.{Imaged}
 use Rattle.held_instances.proofs.AskedLemmas.{registers_asked, terms_asked}
@@ -34,12 +35,13 @@ returns-clause-image g c =
     let one = c.image.new.arena in
     let two = c.register_images.new.arena in
     let three = c.images.new.arena in
-    record {
+    let side : IsSideImage three (put_for_numbers three words mems) c.args.side.now (record { pc = c.in_ok-pc.pc; regs = c.in_ok-regs.regs; mems = c.in_ok-memories.memories }) = record {
       pc = image_stays one three words mems c.image.new.known _ _ c.image.ensures.ready (extends_next one two three c.register_images.ensures.grows c.images.ensures.grows) c.in_ok-pc.ensures.image;
       regs = registers_stay two three words mems c.register_images.new.known c.register_images.ensures.ready c.images.ensures.grows c.args.side.now.regs c.in_ok-regs.regs
           (subst (λ (rs : List (ℕ × ℕ)). AllZip (IsRegisterImage two (put_for_numbers two words mems)) rs c.in_ok-regs.regs) c.as_slice.ensures c.in_ok-regs.ensures.images);
       mems = subst (λ (ks : List ℕ). AreImagesOf three (put_for_numbers three words mems) ks c.in_ok-memories.memories) c.as_slice-2.ensures c.in_ok-memories.ensures.images;
-    }
+    } in
+    IfOk-weaker c.new.result _ _ (λ s e. subst (IsSideImage three (put_for_numbers three words mems) c.args.side.now) (sym e) side) c.new.ensures
 
 pub returns-in_err-pc-clause-imaged : goal.returns-in_err-pc-clause-imaged
 returns-in_err-pc-clause-imaged g c =

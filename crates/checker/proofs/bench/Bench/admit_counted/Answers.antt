@@ -7,8 +7,8 @@ use Rattle.checker.specs.Bench.{state_group, state_history, state_nodes}
 use Rattle.checker.proofs.BenchLemmas.{same_with}
 use Rattle.checker.proofs.bench.Bench.admit_counted.Goals as goal
 
-pub keep_made-requires-clause-sound : goal.keep_made-requires-clause-sound
-keep_made-requires-clause-sound g c =
+pub keep_given-requires-clause-sound : goal.keep_given-requires-clause-sound
+keep_given-requires-clause-sound g c =
     let old = c.args.self.now in
     let one = c.put.new.self in
     let t = triple_tree c.args.t.now in

@@ -4,7 +4,6 @@ use Rattle.verdicts.specs.Instance.{without}
 use Rattle.verdicts.specs.Sound.{Sound}
 use Rattle.checker.specs.Bench.{BenchState, state_group, state_history}
 use Rattle.checker.proofs.BenchLemmas.{history_less, sound_less}
-use Rattle.held_definitions.proofs.MarkLemmas.{unmarked_changed}
 use Rattle.group_text.specs.declared.version.Version.TheVariants.{One}
 use Rattle.checker.proofs.bench.Bench.forget.Goals as goal
 
@@ -17,7 +16,7 @@ invariant_of-self c =
       sound_less s.group.now s.arena s.held.entries s.next s.closed c.remove-gone.new.self.entries c.args.k c.remove-gone.ensures.updates.0 c.self.invariant.0 sound,
       record {
         code = c.self.invariant.1.code;
-        theorems = unmarked_changed s.group.now.code.ranges s.held.entries c.remove-gone.new.self.entries s.marked c.remove.new.self c.args.k None c.remove.ensures.updates.0 c.remove-gone.ensures.updates.0 c.self.invariant.1.theorems;
+        theorems = c.remove.ensures.changed s.group.now.code.ranges s.held.entries c.remove-gone.new.self.entries None c.remove-gone.ensures.updates.0 c.self.invariant.1.theorems;
       },
     )
 

@@ -4,8 +4,17 @@ use Rattle.verdicts.specs.Instance.{with_theorem}
 use Rattle.verdicts.specs.Sound.{Sound}
 use Rattle.checker.specs.Bench.{BenchState, state_group, state_history, state_nodes}
 use Rattle.checker.proofs.BenchLemmas.{history_more, sound_more}
-use Rattle.held_definitions.proofs.MarkLemmas.{unmarked_changed}
+use Rattle.held_definitions.specs.inner.Marks.{HasWithin}
+use Rattle.held_definitions.specs.Theorems.{Theorems}
+use Rattle.held_definitions.specs.inner.Marks.{IsOwnKept}
+use Rattle.checker.specs.inner.Bench.{IsSoundState}
 use Rattle.checker.proofs.bench.Bench.keep.Goals as goal
+
+pub invariant_of-self : goal.invariant_of-self
+invariant_of-self c =
+    let s = c.self.inside in
+    subst (λ (es : Theorems). IsSoundState (s.group.now, s.arena, es, s.next, s.closed) × IsOwnKept s.group.now s.code es c.remove.new.self) (sym c.in_err-insert.ensures.err)
+    (c.self.invariant.0, record { code = c.self.invariant.1.code; theorems = c.remove.ensures.same s.group.now.code.ranges s.held.entries c.self.invariant.1.theorems })
 
 pub invariant_of-self-2 : goal.invariant_of-self-2
 invariant_of-self-2 c =
@@ -16,9 +25,10 @@ invariant_of-self-2 c =
       sound_more s.group.now s.arena s.held.entries s.next s.closed c.insert.new.self.entries c.in-Some.next h c.in_ok-insert.ensures.updates.0 c.in-Some.ensures.1 c.self.invariant.0 there sound,
       record {
         code = c.self.invariant.1.code;
-        theorems = c.mark.ensures s.group.now.code.ranges s.held.entries c.insert.new.self.entries h c.in_ok-insert.ensures.updates.0
+        theorems = c.add.ensures s.group.now.code.ranges s.held.entries c.insert.new.self.entries h c.in_ok-insert.ensures.updates.0
             (λ is. c.requires.own is ∙ sym (ap (λ (k : BenchState). (state_group k).code) c.self.view_is))
-            (unmarked_changed s.group.now.code.ranges s.held.entries c.insert.new.self.entries s.marked c.remove.new.self s.next (Some h) c.remove.ensures.updates.0 c.in_ok-insert.ensures.updates.0 c.self.invariant.1.theorems);
+            (λ is. subst (λ (k : BenchState). HasWithin (state_group k).code h) (sym c.self.view_is) (c.requires.within is))
+            (c.remove.ensures.changed s.group.now.code.ranges s.held.entries c.insert.new.self.entries (Some h) c.in_ok-insert.ensures.updates.0 c.self.invariant.1.theorems);
       },
     )
 

@@ -19,12 +19,12 @@ by_further-requires-clause-put g c = c.in_ok-put.ensures.put.at
 pub by_further-requires-clause-own : goal.by_further-requires-clause-own
 by_further-requires-clause-own g c = λ own. c.in_ok-put.ensures.own own ∙ sym (ap (λ (k : Group). (group_tree k).code) c.put.ensures.group)
 
-pub keep_made-requires-clause-there : goal.keep_made-requires-clause-there
-keep_made-requires-clause-there g c =
+pub keep_given-requires-clause-there : goal.keep_given-requires-clause-there
+keep_given-requires-clause-there g c =
     held_still (state_nodes c.put.new.self) (state_nodes c.by_further.new.self) c.by_further.ensures.grows c.in_ok-put.put c.in_ok-put.ensures.put.at
 
-pub keep_made-requires-clause-sound : goal.keep_made-requires-clause-sound
-keep_made-requires-clause-sound g c =
+pub keep_given-requires-clause-sound : goal.keep_given-requires-clause-sound
+keep_given-requires-clause-sound g c =
     let old = c.args.self.now in
     let one = c.put.new.self in
     let two = c.by_further.new.self in
@@ -46,13 +46,13 @@ returns-clause-after g c =
     let two = c.by_further.new.self in
     let same = c.by_further.ensures.same ∙ c.put.ensures.same in
     let t = same_triple (state_nodes one) (state_nodes two) c.by_further.ensures.grows c.in_ok-put.put c.in_ok-put.ensures.put.at ∙ c.in_ok-put.ensures.put.is in
-    c.in_ok-keep_made.ensures.after ∙ (λ i. with_theorem (t i) (same i))
+    c.in_ok-keep_given.ensures.after ∙ (λ i. with_theorem (t i) (same i))
 
 pub returns-clause-grows : goal.returns-clause-grows
 returns-clause-grows g c =
     let old = state_nodes c.args.self.now in
     let two = state_nodes c.by_further.new.self in
-    subst (λ (ns : List Node). Extends old ns) (sym c.keep_made.ensures.nodes) (extends_next old (state_nodes c.put.new.self) two c.put.ensures.grows c.by_further.ensures.grows)
+    subst (λ (ns : List Node). Extends old ns) (sym c.keep_given.ensures.nodes) (extends_next old (state_nodes c.put.new.self) two c.put.ensures.grows c.by_further.ensures.grows)
 
 pub returns-then-not-so-clause-no_instance : goal.returns-then-not-so-clause-no_instance
 returns-then-not-so-clause-no_instance g c = λ e m.

@@ -13,5 +13,5 @@ pub returns : goal.returns
 returns c = λ is.
     let s = c.self.inside in
     subst (λ (k : BenchState). IsOwnStated (state_group k) (state_history k) (state_nodes k) (short_or_own (state_group k).code c.args.all c.args.line.now)) c.self.view_is
-    (own_stated (group_tree s.group.now) (history_from s.next s.arena s.held.entries s.closed) s.arena (contains nat_cmp s.marked)
-    (λ k marked. theorem_code s.arena s.held.entries k s.group.now.code.ranges (c.self.invariant.1.theorems k marked)) (subst (λ (k : BenchState). IsOwnCode (state_group k).code) (sym c.self.view_is) c.requires) c.args.all c.args.line.now (sym c.states_own.ensures ∙ is))
+    (own_stated (group_tree s.group.now) (history_from s.next s.arena s.held.entries s.closed) s.arena (contains nat_cmp s.marked.own)
+    (λ k marked. theorem_code s.arena s.held.entries k s.group.now.code.ranges (c.self.invariant.1.theorems.own k marked)) (subst (λ (k : BenchState). IsOwnCode (state_group k).code) (sym c.self.view_is) c.requires) c.args.all c.args.line.now (sym c.states_own.ensures ∙ is))
