@@ -21,7 +21,7 @@ use Rattle.code_parts.specs.Graph.{HasPart, IsPart}
 use Rattle.path_walk.specs.inner.Histories.{exit_place, pc_of}
 use Rattle.code_parts.specs.Flows.{group_over}
 use Rattle.path_walk.specs.inner.Acts.{Exited, GoesOn, LeftBy, call_mems, call_words, exit_standing, gives_over, numbered, results_at}
-use Rattle.path_walk.specs.inner.Writers.{FromAs, IsReady, WriterTree, Context, CitedTree, StepsBy, Stood, group_in, past, standing_at, stating}
+use Rattle.path_walk.specs.inner.Writers.{FromAs, IsReady, WriterTree, Context, CitedTree, StepsBy, Stood, front, group_in, past, standing_at, stating}
 use Rattle.path_walk.proofs.Calls as calls
 use Rattle.path_walk.proofs.Calls.{exit-fresh}
 use Rattle.path_walk.proofs.WriterLemmas.{Ends, ends_restated, ends_state, from_on, grown_join, restated-version}
@@ -99,21 +99,21 @@ module _ (f : Flow) (ranges : List Range) (s : Context f ranges) where
           some_and ((past f ranges s l1).theorem l.next) t0 (λ q. IsInst (put_for (call_words f x v) (call_mems f x v)) q t1) ends-used.held (put-is v) in
           ends_restated f ranges s l l1 new l.next j (Inst l.next (call_words f x v) (call_mems f x v)) t0 t1 ends-used meets lines
 
-      pub exit_stood : (entry : ℕ) (new : WriterTree) (path : List FactTree) (from : Option CitedTree) (t : CitedTree) → FromAs f entry ranges (past f ranges s l) (Const callee.entry) v path from →
+      pub exit_stood : (entry : ℕ) (new : WriterTree) (path : List FactTree) (from : Option CitedTree) (t : CitedTree) → FromAs f (front f entry) ranges (past f ranges s l) (Const callee.entry) v path from →
           LeftBy f entry ranges callee.entry d k x v from l new t →
-          Stood f entry ranges s l new (pc_of x v.words) (exit_place f x v.words v.mems) (path ++ Gives d k (current f v) (results_at f x v.words v.mems) ∷ []) t
+          Stood f (front f entry) ranges s l new (pc_of x v.words) (exit_place f x v.words v.mems) (path ++ Gives d k (current f v) (results_at f x v.words v.mems) ∷ []) t
       exit_stood entry new path from t here left =
           let ends = ends-exited left.mid left.number left.exited in
           let news : List FactTree = Gives d k (current f v) (results_at f x v.words v.mems) ∷ [] in
-          let end = goes_on f ranges s entry left.mid new (Const callee.entry) v path (path ++ news) from (exit_standing f ranges d k x v left.number) t (pc_of x v.words) (exit_place f x v.words v.mems)
-          ends.grown.ready (from_on f ranges s entry l left.mid (Const callee.entry) v path from ends.grown here) ends.held (λ a b e. e)
+          let end = goes_on f ranges s (front f entry) left.mid new (Const callee.entry) v path (path ++ news) from (exit_standing f ranges d k x v left.number) t (pc_of x v.words) (exit_place f x v.words v.mems)
+          ends.grown.ready (from_on f ranges s (front f entry) l left.mid (Const callee.entry) v path from ends.grown here) ends.held (λ a b e. e)
           (record { each = λ y c. Contains-append_right path news y c }) (record { each = λ y c. Contains-append_left path news y c }) left.on in
           record { grown = grown_join f ranges s l left.mid new ends.grown end.grown; cited = end.cited ∙ ends.cited; stands = end.stands }
 
 -- the text stays of its version
 pub left-version : (f : Flow) (entry : ℕ) (ranges : List Range) (called d k : ℕ) (x : Exit) (v : VariableMap) (from : Option CitedTree) (old new : WriterTree) (t : CitedTree) → LeftBy f entry ranges called d k x v from old new t → new.version ≡ old.version
 left-version f entry ranges called d k x v from old new t left =
-    goes-version f entry from (exit_standing f ranges d k x v left.number) t (pc_of x v.words) (exit_place f x v.words v.mems) left.mid new left.on ∙ restated-version _ _ _ _ _ _ _ left.exited
+    goes-version f (front f entry) from (exit_standing f ranges d k x v left.number) t (pc_of x v.words) (exit_place f x v.words v.mems) left.mid new left.on ∙ restated-version _ _ _ _ _ _ _ left.exited
 
 -- they are steps to there, where the part has that exit
 pub exit_steps : (f : Flow) (ranges : List Range) (q : Part) (k : ℕ) (x : Exit) (entry : ℕ) (v : VariableMap) (old new : WriterTree) (from : Option CitedTree) (t : CitedTree) →
@@ -125,24 +125,24 @@ exit_steps f ranges q k x entry v old new from t part at left = record {
   each = λ s path ready closed low here.
       let has : HasPart f (group_over f s.name ranges s.defs) q = s.has q part low in
       exit_stood f ranges s (f.number q) k has.def x has.is (ap (λ (xs : List Exit). slice_get xs k) has.exits ∙ at) v old ready closed entry new path from t
-      (subst (λ (a : ℕ). FromAs f entry ranges (past f ranges s old) (Const a) v path from) (sym has.entry) here)
+      (subst (λ (a : ℕ). FromAs f (front f entry) ranges (past f ranges s old) (Const a) v path from) (sym has.entry) here)
       (subst (λ (a : ℕ). LeftBy f entry ranges a (f.number q) k x v from old new t) (sym has.entry) left);
 }
 
 -- .. as they were made
 pub left_made : (f : Flow) (ranges : List Range) (called d k : ℕ) (x : Exit) (entry : ℕ) (v : VariableMap) (old mid new : WriterTree) (j : ℕ) (from : Option CitedTree) (last t : CitedTree) (pc : WordTree) (u : VariableMap) →
-    last ≡ exit_standing f ranges d k x v j → Exited f ranges called d k x v old mid j → pc ≡ pc_of x v.words → u ≡ exit_place f x v.words v.mems → GoesOn f entry from last pc u mid new t → LeftBy f entry ranges called d k x v from old new t
+    last ≡ exit_standing f ranges d k x v j → Exited f ranges called d k x v old mid j → pc ≡ pc_of x v.words → u ≡ exit_place f x v.words v.mems → GoesOn f (front f entry) from last pc u mid new t → LeftBy f entry ranges called d k x v from old new t
 left_made f ranges called d k x entry v old mid new j from last t pc u last_is lines pc_is u_is on = record {
   number = j;
   mid = mid;
   exited = lines;
-  on = subst (λ (y : CitedTree). GoesOn f entry from y (pc_of x v.words) (exit_place f x v.words v.mems) mid new t) last_is
-      (subst (λ (y : WordTree). GoesOn f entry from last y (exit_place f x v.words v.mems) mid new t) pc_is (subst (λ (y : VariableMap). GoesOn f entry from last pc y mid new t) u_is on));
+  on = subst (λ (y : CitedTree). GoesOn f (front f entry) from y (pc_of x v.words) (exit_place f x v.words v.mems) mid new t) last_is
+      (subst (λ (y : WordTree). GoesOn f (front f entry) from last y (exit_place f x v.words v.mems) mid new t) pc_is (subst (λ (y : VariableMap). GoesOn f (front f entry) from last pc y mid new t) u_is on));
 }
 
 pub exit_made : (f : Flow) (ranges : List Range) (q : Part) (k : ℕ) (x : Exit) (entry : ℕ) (v : VariableMap) (old mid new : WriterTree) (j : ℕ) (from : Option CitedTree) (last t : CitedTree) (pc : WordTree) (u : VariableMap) (d a : ℕ) →
     IsPart f q → slice_get (exits_of f q) k ≡ Some x → d ≡ f.number q → a ≡ f.addr (first f q) → last ≡ exit_standing f ranges d k x v j → Exited f ranges a d k x v old mid j →
-    pc ≡ pc_of x v.words → u ≡ exit_place f x v.words v.mems → GoesOn f entry from last pc u mid new t →
+    pc ≡ pc_of x v.words → u ≡ exit_place f x v.words v.mems → GoesOn f (front f entry) from last pc u mid new t →
     StepsBy f entry ranges (f.number q) old new (Const (f.addr (first f q))) v from (pc_of x v.words) (exit_place f x v.words v.mems) (Gives (f.number q) k (current f v) (results_at f x v.words v.mems) ∷ []) t
 exit_made f ranges q k x entry v old mid new j from last t pc u d a part at d_is a_is last_is lines pc_is u_is on =
     exit_steps f ranges q k x entry v old new from t part at

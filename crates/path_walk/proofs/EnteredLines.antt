@@ -27,7 +27,7 @@ use Rattle.code_parts.specs.inner.Ends.{body_on}
 use Rattle.code_parts.proofs.Counts.{all-mems, all-words}
 use Rattle.verdicts.specs.Further.{further_of}
 use Rattle.path_walk.specs.inner.Acts.{Entered, Exited, GoesOn, LeftBy, exit_standing, new_facts, results_at, steered_standing, steered}
-use Rattle.path_walk.specs.inner.Writers.{FromAs, IsReady, Leads, Led, WriterTree, Context, CitedTree, StandsAs, Steps, Stood, group_in, past, standing_at}
+use Rattle.path_walk.specs.inner.Writers.{FromAs, IsReady, Leads, Led, WriterTree, Context, CitedTree, StandsAs, Steps, Stood, front, group_in, past, standing_at}
 use Rattle.path_walk.proofs.CalledDefs.{below_steps, closed_more, closed_steps}
 use Rattle.path_walk.proofs.CallLemmas.{exit_stood, left-version, left_made, results_are}
 use Rattle.path_walk.proofs.Facts.{all-facts, facts_after, leaves-steps}
@@ -45,8 +45,8 @@ among-more fs gs y all x c = by (Contains-append_cases fs (y ∷ []) x c)
 
 -- a way whose last program counter is a term goes on at an address, where the two are equal
 pub steer_stood : (f : Flow) (ranges : List Range) (s : Context f ranges) (entry n : ℕ) (c : Callee) → n < f.nodes → f.callee n ≡ Some c → (pc : WordTree) (back : ℕ) (u : VariableMap) (l : WriterTree) (path : List FactTree) (t : CitedTree) → IsReady f ranges s l →
-    StandsAs f entry ranges (past f ranges s l) pc u path t →
-    Stood f entry ranges s l (steered f entry pc back u t l) (Const back) u (path ++ So (Compare Eq pc (Const back)) ∷ []) (steered_standing pc back t l)
+    StandsAs f (front f entry) ranges (past f ranges s l) pc u path t →
+    Stood f (front f entry) ranges s l (steered f entry pc back u t l) (Const back) u (path ++ So (Compare Eq pc (Const back)) ∷ []) (steered_standing pc back t l)
 steer_stood f ranges s entry n c node calls pc back u l path t ready here =
     let first : TripleTree = record { facts = t.facts; pre = standing_at f (Const entry) (start f); code = t.code; post = standing_at f pc u } in
     let check : FactTree = So (Compare Eq pc (Const back)) in
@@ -89,7 +89,7 @@ module _ (f : Flow) (p : Part) (ranges : List Range) where
         let has = s.callees n c node calls below.0 in
         let exits : has.def.exits ≡ Ret ∷ [] = has.exits ∙ (λ i. cond (returns i) (Ret ∷ []) []) in
         let stood = exit_stood f ranges s c.def 0 has.def Ret has.is (ap (λ (xs : List Exit). slice_get xs 0) exits) u old ready closed.0 entry mid path from t
-        (subst (λ (a : ℕ). FromAs f entry ranges (past f ranges s old) (Const a) u path from) (sym has.entry) here)
+        (subst (λ (a : ℕ). FromAs f (front f entry) ranges (past f ranges s old) (Const a) u path from) (sym has.entry) here)
         (subst (λ (a : ℕ). LeftBy f entry ranges a c.def 0 Ret u from old mid t) (sym has.entry) on) in
         let ways : List FactTree = path ++ Gives c.def 0 (current f u) (results_at f Ret u.words u.mems) ∷ [] in
         let turned = steer_stood f ranges s entry n c node calls (Var u.words) back (back_at u) mid ways t stood.grown.ready stood.stands in
@@ -131,7 +131,7 @@ module _ (f : Flow) (p : Part) (ranges : List Range) where
 
   -- the body from a node with a call on: the lines of its instruction, those of the call, and the way from the next node on
   pub entering_leads : (n room : ℕ) (c : Callee) (v : VariableMap) (from : Option CitedTree) (t t1 : CitedTree) (old mid last new : WriterTree) → n < f.nodes → f.callee n ≡ Some c →
-      Steps f (part_def f p).entry ranges old mid (Const (f.addr n)) v from (pc_after (f.instr n) Next (f.addr n) (size f n) (names v (f.uses n))) (place_after (f.instr n) (f.uses n) v)
+      Steps f (front f (part_def f p).entry) ranges old mid (Const (f.addr n)) v from (pc_after (f.instr n) Next (f.addr n) (size f n) (names v (f.uses n))) (place_after (f.instr n) (f.uses n) v)
       (map So (conditions (f.instr n) Next (names v (f.uses n))) ++ new_facts (f.instr n) (f.addr n) (size f n) (f.uses n) v) t →
       (c.returns ≡ true → LeftBy f (part_def f p).entry ranges c.entry c.def 0 Ret (place_after (f.instr n) (f.uses n) v) (Some t) mid last t1
       × Leads f p ranges (steered f (part_def f p).entry (Var (place_after (f.instr n) (f.uses n) v).words) (f.addr (f.to n Next)) (back_at (place_after (f.instr n) (f.uses n) v)) t1 last) new
@@ -149,8 +149,8 @@ module _ (f : Flow) (p : Part) (ranges : List Range) where
             let pc : pc_after (f.instr n) Next (f.addr n) (size f n) (names v (f.uses n)) ≡ Const c.entry = (λ j. pc_after (is.instr j) Next (f.addr n) (size f n) (names v (f.uses n))) ∙ ap Const (sym is.entry) in
             let facts : path ++ (map So (conditions (f.instr n) Next (names v (f.uses n))) ++ new_facts (f.instr n) (f.addr n) (size f n) (f.uses n) v) ≡ facts_after ss v.words v.mems path =
             sym (append_assoc path (map So (conditions (f.instr n) Next (names v (f.uses n)))) (new_facts (f.instr n) (f.addr n) (size f n) (f.uses n) v)) ∙ sym (all-facts (f.instr n) (f.addr n) (size f n) (f.uses n) v path) in
-            let there = subst (λ (k : WordTree). StandsAs f (part_def f p).entry ranges (past f ranges s mid) k u (path ++ (map So (conditions (f.instr n) Next (names v (f.uses n))) ++ new_facts (f.instr n) (f.addr n) (size f n) (f.uses n) v)) t) pc stood.stands in
-            let known = subst (λ (fs : List FactTree). StandsAs f (part_def f p).entry ranges (past f ranges s mid) (Const c.entry) u fs t) facts there in
+            let there = subst (λ (k : WordTree). StandsAs f (front f (part_def f p).entry) ranges (past f ranges s mid) k u (path ++ (map So (conditions (f.instr n) Next (names v (f.uses n))) ++ new_facts (f.instr n) (f.addr n) (size f n) (f.uses n) v)) t) pc stood.stands in
+            let known = subst (λ (fs : List FactTree). StandsAs f (front f (part_def f p).entry) ranges (past f ranges s mid) (Const c.entry) u fs t) facts there in
             let on = subst (λ (k : ℕ). Leads f p ranges mid new (Const c.entry) u (Some t) (entered k)) back rest in
             let led = on.each s (facts_after ss v.words v.mems path) stood.grown.ready known
             (closed_more (past f ranges s old) (past f ranges s mid) (entered (away (f.addr n) (size f n))) stood.grown.keeps (closed_steps (past f ranges s old) ss (entered (away (f.addr n) (size f n))) closed))
@@ -177,7 +177,7 @@ module _ (f : Flow) (p : Part) (ranges : List Range) where
 
   -- .. as its lines are written, where the function returns
   pub entering_returned : (n room : ℕ) (c : Callee) (v : VariableMap) (from : Option CitedTree) (t there : CitedTree) (old mid last new : WriterTree) → n < f.nodes → f.callee n ≡ Some c → c.returns ≡ true →
-      Steps f (part_def f p).entry ranges old mid (Const (f.addr n)) v from (pc_after (f.instr n) Next (f.addr n) (size f n) (names v (f.uses n))) (place_after (f.instr n) (f.uses n) v)
+      Steps f (front f (part_def f p).entry) ranges old mid (Const (f.addr n)) v from (pc_after (f.instr n) Next (f.addr n) (size f n) (names v (f.uses n))) (place_after (f.instr n) (f.uses n) v)
       (map So (conditions (f.instr n) Next (names v (f.uses n))) ++ new_facts (f.instr n) (f.addr n) (size f n) (f.uses n) v) t →
       Entered f (part_def f p).entry ranges c.entry c.def (f.addr (f.to n Next)) (place_after (f.instr n) (f.uses n) v) (Some t) mid last there →
       Leads f p ranges last new (Const (f.addr (f.to n Next))) (back_at (place_after (f.instr n) (f.uses n) v)) (Some there) (body_on room f p (f.to n Next) (back_at (place_after (f.instr n) (f.uses n) v))) →
@@ -202,7 +202,7 @@ module _ (f : Flow) (p : Part) (ranges : List Range) where
 
   -- .. where it never returns
   pub entering_unreturned : (n room : ℕ) (c : Callee) (v : VariableMap) (from : Option CitedTree) (t : CitedTree) (old mid : WriterTree) → n < f.nodes → f.callee n ≡ Some c → c.returns ≡ false →
-      Steps f (part_def f p).entry ranges old mid (Const (f.addr n)) v from (pc_after (f.instr n) Next (f.addr n) (size f n) (names v (f.uses n))) (place_after (f.instr n) (f.uses n) v)
+      Steps f (front f (part_def f p).entry) ranges old mid (Const (f.addr n)) v from (pc_after (f.instr n) Next (f.addr n) (size f n) (names v (f.uses n))) (place_after (f.instr n) (f.uses n) v)
       (map So (conditions (f.instr n) Next (names v (f.uses n))) ++ new_facts (f.instr n) (f.addr n) (size f n) (f.uses n) v) t →
       Leads f p ranges old mid (Const (f.addr n)) v from (body_at (suc room) f p n v)
   entering_unreturned n room c v from t old mid node calls never step = entering_leads n room c v from t t old mid mid mid node calls step (λ is. absurd (both is never)) (λ none. refl)
@@ -213,21 +213,21 @@ module _ (f : Flow) (p : Part) (ranges : List Range) where
   -- .. by the code, in a part's own terms
   pub called_made : (n room : ℕ) (c : Callee) (v next back : VariableMap) (entry to addr : ℕ) (from : Option CitedTree) (t there : CitedTree) (old mid last new : WriterTree) → n < f.nodes → f.callee n ≡ Some c → c.returns ≡ true → 0 < room →
       entry ≡ (part_def f p).entry → to ≡ f.to n Next → addr ≡ f.addr to → next ≡ place_after (f.instr n) (f.uses n) v → back ≡ fresh f (suc next.words) next.mems →
-      Steps f entry ranges old mid (Const (f.addr n)) v from (pc_after (f.instr n) Next (f.addr n) (size f n) (names v (f.uses n))) (place_after (f.instr n) (f.uses n) v)
+      Steps f (front f entry) ranges old mid (Const (f.addr n)) v from (pc_after (f.instr n) Next (f.addr n) (size f n) (names v (f.uses n))) (place_after (f.instr n) (f.uses n) v)
       (map So (conditions (f.instr n) Next (names v (f.uses n))) ++ new_facts (f.instr n) (f.addr n) (size f n) (f.uses n) v) t →
       Entered f entry ranges c.entry c.def addr next (Some t) mid last there →
       Leads f p ranges last new (Const (f.addr to)) back (Some there) (body_on (room - 1) f p to back) →
       Leads f p ranges old new (Const (f.addr n)) v from (body_at room f p n v)
-  called_made n room c v next back entry to addr from t there old mid last new node calls returns some front to_is addr_is next_is back_is step way rest =
+  called_made n room c v next back entry to addr from t there old mid last new node calls returns some entry_is to_is addr_is next_is back_is step way rest =
       subst (λ (k : ℕ). Leads f p ranges old new (Const (f.addr n)) v from (body_at k f p n v)) whole (entering_returned n (room - 1) c v from t there old mid last new node calls returns
-      (subst (λ (e : ℕ). Steps f e ranges old mid (Const (f.addr n)) v from (pc_after (f.instr n) Next (f.addr n) (size f n) (names v (f.uses n))) (place_after (f.instr n) (f.uses n) v)
-      (map So (conditions (f.instr n) Next (names v (f.uses n))) ++ new_facts (f.instr n) (f.addr n) (size f n) (f.uses n) v) t) front step) known on)
+      (subst (λ (e : ℕ). Steps f (front f e) ranges old mid (Const (f.addr n)) v from (pc_after (f.instr n) Next (f.addr n) (size f n) (names v (f.uses n))) (place_after (f.instr n) (f.uses n) v)
+      (map So (conditions (f.instr n) Next (names v (f.uses n))) ++ new_facts (f.instr n) (f.addr n) (size f n) (f.uses n) v) t) entry_is step) known on)
     where
       whole : suc (room - 1) ≡ room
       whole = omega (arith, some)
 
       known : Entered f (part_def f p).entry ranges c.entry c.def (f.addr (f.to n Next)) (place_after (f.instr n) (f.uses n) v) (Some t) mid last there
-      known = subst (λ (e : ℕ). Entered f e ranges c.entry c.def (f.addr (f.to n Next)) (place_after (f.instr n) (f.uses n) v) (Some t) mid last there) front
+      known = subst (λ (e : ℕ). Entered f e ranges c.entry c.def (f.addr (f.to n Next)) (place_after (f.instr n) (f.uses n) v) (Some t) mid last there) entry_is
           (subst (λ (k : ℕ). Entered f entry ranges c.entry c.def k (place_after (f.instr n) (f.uses n) v) (Some t) mid last there) (addr_is ∙ ap f.addr to_is)
           (subst (λ (u : VariableMap). Entered f entry ranges c.entry c.def addr u (Some t) mid last there) next_is way))
 
@@ -236,14 +236,14 @@ module _ (f : Flow) (p : Part) (ranges : List Range) where
           (subst (λ (k : ℕ). Leads f p ranges last new (Const (f.addr k)) back (Some there) (body_on (room - 1) f p k back)) to_is rest)
 
   pub unreturned_made : (n room : ℕ) (c : Callee) (v : VariableMap) (entry : ℕ) (from : Option CitedTree) (t : CitedTree) (old mid : WriterTree) → n < f.nodes → f.callee n ≡ Some c → c.returns ≡ false → 0 < room → entry ≡ (part_def f p).entry →
-      Steps f entry ranges old mid (Const (f.addr n)) v from (pc_after (f.instr n) Next (f.addr n) (size f n) (names v (f.uses n))) (place_after (f.instr n) (f.uses n) v)
+      Steps f (front f entry) ranges old mid (Const (f.addr n)) v from (pc_after (f.instr n) Next (f.addr n) (size f n) (names v (f.uses n))) (place_after (f.instr n) (f.uses n) v)
       (map So (conditions (f.instr n) Next (names v (f.uses n))) ++ new_facts (f.instr n) (f.addr n) (size f n) (f.uses n) v) t →
       Leads f p ranges old mid (Const (f.addr n)) v from (body_at room f p n v)
-  unreturned_made n room c v entry from t old mid node calls never some front step =
+  unreturned_made n room c v entry from t old mid node calls never some entry_is step =
       let whole : suc (room - 1) ≡ room = omega (arith, some) in
       subst (λ (k : ℕ). Leads f p ranges old mid (Const (f.addr n)) v from (body_at k f p n v)) whole (entering_unreturned n (room - 1) c v from t old mid node calls never
-      (subst (λ (e : ℕ). Steps f e ranges old mid (Const (f.addr n)) v from (pc_after (f.instr n) Next (f.addr n) (size f n) (names v (f.uses n))) (place_after (f.instr n) (f.uses n) v)
-      (map So (conditions (f.instr n) Next (names v (f.uses n))) ++ new_facts (f.instr n) (f.addr n) (size f n) (f.uses n) v) t) front step))
+      (subst (λ (e : ℕ). Steps f (front f e) ranges old mid (Const (f.addr n)) v from (pc_after (f.instr n) Next (f.addr n) (size f n) (names v (f.uses n))) (place_after (f.instr n) (f.uses n) v)
+      (map So (conditions (f.instr n) Next (names v (f.uses n))) ++ new_facts (f.instr n) (f.addr n) (size f n) (f.uses n) v) t) entry_is step))
 
 -- the text stays of its version
 pub entered-version : (f : Flow) (entry : ℕ) (ranges : List Range) (called d back : ℕ) (u : VariableMap) (from : Option CitedTree) (old new : WriterTree) (t : CitedTree) → Entered f entry ranges called d back u from old new t → new.version ≡ old.version
@@ -252,7 +252,7 @@ entered-version f entry ranges called d back u from old new t way =
 
 -- the lines as they were made
 pub entered_made : (f : Flow) (entry : ℕ) (ranges : List Range) (called d back : ℕ) (u w : VariableMap) (from : Option CitedTree) (old left mid new : WriterTree) (j : ℕ) (exit last t : CitedTree) →
-    exit ≡ exit_standing f ranges d 0 Ret u j → Exited f ranges called d 0 Ret u old left j → w ≡ fresh f (suc u.words) u.mems → GoesOn f entry from exit (Var u.words) w left mid last →
+    exit ≡ exit_standing f ranges d 0 Ret u j → Exited f ranges called d 0 Ret u old left j → w ≡ fresh f (suc u.words) u.mems → GoesOn f (front f entry) from exit (Var u.words) w left mid last →
     new ≡ steered f entry (Var u.words) back w last mid → t ≡ steered_standing (Var u.words) back last mid → Entered f entry ranges called d back u from old new t
 entered_made f entry ranges called d back u w from old left mid new j exit last t exit_is lines w_is on new_is t_is = record {
   mid = mid;

@@ -1,5 +1,5 @@
 -- From one place to the next: what an instruction's or a call's lines lead to, joined to the theorem of the way to here.
-use Rattle.std.proofs.Common.{◌≡◌, ℕ, zero, suc, List, [], ◌∷◌, ◌++◌, length, drop, refl, sym, ap, ◌∙◌, subst, arith, Option, None, Some, ◌⊎◌, inl, inr, Contains}
+use Rattle.std.proofs.Common.{◌≡◌, zero, suc, List, [], ◌∷◌, ◌++◌, length, drop, refl, sym, ap, ◌∙◌, subst, arith, Option, None, Some, ◌⊎◌, inl, inr, Contains}
 use Rattle.std.specs.Prelude.{IsSomeAnd}
 use Rattle.std.proofs.lemmas.List.Elements.{Contains-append_cases}
 use Rattle.rv_words.specs.Bytes.{Bytes}
@@ -12,9 +12,9 @@ use Rattle.triple_kernel.specs.Rules.{AreAmong}
 use Rattle.frame_compose.specs.Rules.{AreMissing, IsComposed}
 use Rattle.proof_text.specs.Line.{Compose}
 use Rattle.verdicts.specs.Instance.{Meets}
-use Rattle.code_parts.specs.Bodies.{Flow, VariableMap, start}
+use Rattle.code_parts.specs.Bodies.{Flow, VariableMap}
 use Rattle.path_walk.specs.inner.Acts.{GoesOn}
-use Rattle.path_walk.specs.inner.Writers.{FromAs, IsReady, WriterTree, Context, CitedTree, Stood, group_in, past, standing_at, stating}
+use Rattle.path_walk.specs.inner.Writers.{FromAs, IsReady, WriterTree, Context, CitedTree, OriginTree, Stood, group_in, past, standing_on, stating}
 use Rattle.path_walk.proofs.WriterLemmas.{grown_none, grown_state, held_now}
 use Rattle.path_walk.proofs.Joins.{drop-all, or-within, some-same, some_and}
 use Rattle.code_parts.proofs.Lists.{later}
@@ -30,29 +30,29 @@ among-missing known fs more h = record { each = λ x c. go fs more h x c }
     go (y ∷ fs) (z ∷ more) (inr h) x (suc k, lt, at) = later y fs x (go fs more h.1.1 x (k, omega (arith, lt), at))
 
 -- the text stays of its version
-pub goes-version : (f : Flow) (entry : ℕ) (from : Option CitedTree) (there t : CitedTree) (to : WordTree) (u : VariableMap) (old new : WriterTree) → GoesOn f entry from there to u old new t → new.version ≡ old.version
-goes-version f entry None there t to u old new on = ap (λ (l : WriterTree). l.version) on.0
-goes-version f entry (Some st) there t to u old new on = ap (λ (l : WriterTree). l.version) on.log
+pub goes-version : (f : Flow) (o : OriginTree) (from : Option CitedTree) (there t : CitedTree) (to : WordTree) (u : VariableMap) (old new : WriterTree) → GoesOn f o from there to u old new t → new.version ≡ old.version
+goes-version f o None there t to u old new on = ap (λ (l : WriterTree). l.version) on.0
+goes-version f o (Some st) there t to u old new on = ap (λ (l : WriterTree). l.version) on.log
 
-module _ (f : Flow) (ranges : List Range) (s : Context f ranges) (entry : ℕ) where
+module _ (f : Flow) (ranges : List Range) (s : Context f ranges) (o : OriginTree) where
   pub goes_on : (old new : WriterTree) (pc : WordTree) (v : VariableMap) (path ways : List FactTree) (from : Option CitedTree) (there t : CitedTree) (to : WordTree) (u : VariableMap) →
-      IsReady f ranges s old → FromAs f entry ranges (past f ranges s old) pc v path from →
-      (past f ranges s old).theorem there.number ≡ Some (record { facts = there.facts; pre = standing_at f pc v; code = there.code; post = standing_at f to u }) →
-      IsWithin (range_bytes there.code) (range_bytes ranges) → AreAmong there.facts ways → AreAmong path ways → GoesOn f entry from there to u old new t → Stood f entry ranges s old new to u ways t
+      IsReady f ranges s old → FromAs f o ranges (past f ranges s old) pc v path from →
+      (past f ranges s old).theorem there.number ≡ Some (record { facts = there.facts; pre = standing_on f o pc v; code = there.code; post = standing_on f o to u }) →
+      IsWithin (range_bytes there.code) (range_bytes ranges) → AreAmong there.facts ways → AreAmong path ways → GoesOn f o from there to u old new t → Stood f o ranges s old new to u ways t
   goes_on old new pc v path ways None there t to u ready from held within among longer on =
-      subst (λ (l : WriterTree). Stood f entry ranges s old l to u ways t) (sym on.0) (subst (λ (x : CitedTree). Stood f entry ranges s old old to u ways x) (sym on.1) (record {
+      subst (λ (l : WriterTree). Stood f o ranges s old l to u ways t) (sym on.0) (subst (λ (x : CitedTree). Stood f o ranges s old old to u ways x) (sym on.1) (record {
         grown = grown_none f ranges s old ready;
         cited = refl;
         stands = record {
-          held = held ∙ (λ i. Some (record { facts = there.facts; pre = standing_at f (from.0 i) (from.1 i); code = there.code; post = standing_at f to u }));
+          held = held ∙ (λ i. Some (record { facts = there.facts; pre = standing_on f o (from.0 i) (from.1 i); code = there.code; post = standing_on f o to u }));
           facts = among;
           code = within;
         };
       }))
   goes_on old new pc v path ways (Some st) there t to u ready from held within among longer on =
-      let first : TripleTree = record { facts = st.facts; pre = standing_at f (Const entry) (start f); code = st.code; post = standing_at f pc v } in
-      let second : TripleTree = record { facts = there.facts; pre = standing_at f pc v; code = there.code; post = standing_at f to u } in
-      let whole : TripleTree = record { facts = t.facts; pre = standing_at f (Const entry) (start f); code = t.code; post = standing_at f to u } in
+      let first : TripleTree = record { facts = st.facts; pre = standing_on f o (Const o.entry) o.place; code = st.code; post = standing_on f o pc v } in
+      let second : TripleTree = record { facts = there.facts; pre = standing_on f o pc v; code = there.code; post = standing_on f o to u } in
+      let whole : TripleTree = record { facts = t.facts; pre = standing_on f o (Const o.entry) o.place; code = t.code; post = standing_on f o to u } in
       let split : t.facts ≡ st.facts ++ on.more = on.facts in
       let rest : drop (length st.facts) t.facts ≡ on.more = ap (drop (length st.facts)) split ∙ drop-all st.facts on.more in
       let composed : IsComposed first second whole = record {
@@ -67,7 +67,7 @@ module _ (f : Flow) (ranges : List Range) (s : Context f ranges) (entry : ℕ) w
       let meets : Meets (group_in f ranges s) (past f ranges s old) (Compose st.number there.number) whole =
       some_and ((past f ranges s old).theorem st.number) first (λ x. IsSomeAnd ((past f ranges s old).theorem there.number) (λ q. IsComposed x q whole)) from.held
       (some_and ((past f ranges s old).theorem there.number) second (λ q. IsComposed first q whole) held composed) in
-      subst (λ (l : WriterTree). Stood f entry ranges s old l to u ways t) (sym on.log) (record {
+      subst (λ (l : WriterTree). Stood f o ranges s old l to u ways t) (sym on.log) (record {
         grown = grown_state f ranges s (Compose st.number there.number) whole old ready meets;
         cited = refl;
         stands = record {

@@ -22,20 +22,20 @@ use Rattle.loop_rule.specs.Leaves.{arm_leaves, at_exit, body_leaves, parameters,
 use Rattle.loop_rule.specs.Rule.{LeadsTo}
 use Rattle.code_parts.specs.declared.part.Part.{Part}
 use Rattle.code_parts.specs.declared.part.Part.TheVariants.{Loop, Rest}
-use Rattle.code_parts.specs.Bodies.{size, Flow, VariableMap, body_at, current, end_at, end_of, exits_of, first, fresh, index_of, last_at, names, needs, own, part_def, place_after, rest_arms, rest_from, rest_targets, returned, start, targets, with_pc, writes}
+use Rattle.code_parts.specs.Bodies.{size, Flow, VariableMap, body_at, current, end_at, end_of, exits_of, first, fresh, index_of, last_at, names, needs, own, part_def, place_after, rest_arms, rest_from, rest_targets, returned, start, targets, with_pc}
 use Rattle.tailrec_lang.specs.Registers.{AreRegistersFrom}
 use Rattle.code_parts.specs.Graph.{IsPart, IsPlaced, has_edge, is_jump_through}
 use Rattle.path_walk.specs.inner.Acts.{new_facts, results_at}
+use Rattle.path_walk.specs.inner.Blocks.{Reaches}
 use Rattle.path_walk.specs.inner.Near.{IsEnd, IsNear}
 use Rattle.code_parts.specs.inner.Ends.{body_on, returned_body, returning}
 use Rattle.code_parts.specs.Regions.{ends_at}
 use Rattle.path_walk.specs.inner.Lines.{ArmsLead}
-use Rattle.path_walk.specs.inner.Writers.{FromAs, Grown, IsReady, Leads, Led, WriterTree, Context, CitedTree, StandsAs, Steps, StepsBy, citing, group_in, past, standing_at}
-use Rattle.path_walk.proofs.Facts.{all-facts, need-facts, facts_after, leaves-steps}
-use Rattle.code_parts.proofs.Counts.{all-mems, all-words}
-use Rattle.code_parts.proofs.BuiltBodies.{IsNoBranch, goes_back, goes_straight, goes_two_ways, straight_edge}
+use Rattle.path_walk.specs.inner.Writers.{FromAs, Grown, IsReady, Leads, Led, WriterTree, Context, CitedTree, StandsAs, Steps, StepsBy, citing, front, group_in, past, standing_at}
+use Rattle.path_walk.proofs.Facts.{need-facts, facts_after, leaves-steps}
+use Rattle.code_parts.proofs.BuiltBodies.{goes_back, goes_two_ways}
 use Rattle.path_walk.proofs.CallLemmas.{results_are, standing_is}
-use Rattle.path_walk.proofs.CalledDefs.{arms_closed_more, below_steps, closed_more, closed_steps}
+use Rattle.path_walk.proofs.CalledDefs.{arms_closed_more, closed_more}
 use Rattle.code_parts.proofs.Lists.{index-at, index-some, slice-map}
 use Rattle.path_walk.proofs.WriterLemmas.{from_on, grown_join, grown_none}
 use Rattle.path_walk.proofs.Lists.{current-fresh}
@@ -46,10 +46,10 @@ module _ (f : Flow) (p : Part) (ranges : List Range) where
   def = part_def f p
 
   abbrev Here : Context f ranges → WriterTree → WordTree → VariableMap → List FactTree → CitedTree → Type 0
-  Here s l = StandsAs f (part_def f p).entry ranges (past f ranges s l)
+  Here s l = StandsAs f (front f (part_def f p).entry) ranges (past f ranges s l)
 
   abbrev Start : Context f ranges → WriterTree → WordTree → VariableMap → List FactTree → Option CitedTree → Type 0
-  Start s l = FromAs f (part_def f p).entry ranges (past f ranges s l)
+  Start s l = FromAs f (front f (part_def f p).entry) ranges (past f ranges s l)
 
   -- ---- lines after lines
 
@@ -177,7 +177,7 @@ module _ (f : Flow) (p : Part) (ranges : List Range) where
         let first = one.each s ways stood.grown.ready stood.stands (closed_more (past f ranges s old) (past f ranges s mid) b stood.grown.keeps ok.0) below.0 in
         let named = subst (λ (r : ValuesTree). Led f p ranges s mid after (body_leaves g (part_def f p) b (v.words + length f.regs) (v.mems + f.mems) (path ++ Gives d k (current f v) r ∷ []))) res first in
         let grown = grown_join f ranges s old mid after stood.grown named.grown in
-        let more = rest.each s path grown.ready (grown.keeps.closed d closed) low (from_on f ranges s (part_def f p).entry old after pc v path from grown here) (arms_closed_more (past f ranges s old) (past f ranges s after) arms grown.keeps ok.1) below.1 in
+        let more = rest.each s path grown.ready (grown.keeps.closed d closed) low (from_on f ranges s (front f (part_def f p).entry) old after pc v path from grown here) (arms_closed_more (past f ranges s old) (past f ranges s after) arms grown.keeps ok.1) below.1 in
         led_join s old after new
         (body_leaves g (part_def f p) b (v.words + length f.regs) (v.mems + f.mems) (path ++ Gives d k (current f v) (variables_after v.words v.mems (length f.regs) f.mems) ∷ []))
         (arm_leaves g (part_def f p) d exits (suc k) (current f v) arms v.words v.mems path)
@@ -289,48 +289,28 @@ module _ (f : Flow) (p : Part) (ranges : List Range) where
   -- ---- instructions
 
   pub steps_front : (entry : ℕ) (old new : WriterTree) (pc : WordTree) (v : VariableMap) (from : Option CitedTree) (to : WordTree) (u : VariableMap) (more : List FactTree) (t : CitedTree) → entry ≡ (part_def f p).entry →
-      Steps f entry ranges old new pc v from to u more t → Steps f (part_def f p).entry ranges old new pc v from to u more t
-  steps_front entry old new pc v from to u more t front steps = subst (λ (e : ℕ). Steps f e ranges old new pc v from to u more t) front steps
+      Steps f (front f entry) ranges old new pc v from to u more t → Steps f (front f (part_def f p).entry) ranges old new pc v from to u more t
+  steps_front entry old new pc v from to u more t is steps = subst (λ (e : ℕ). Steps f (front f e) ranges old new pc v from to u more t) is steps
 
-  -- after the steps of an instruction that goes on to one node
-  pub straight_leads : (n room : ℕ) (v u : VariableMap) (i : Instr) (m : ℕ) (from : Option CitedTree) (t : CitedTree) (old mid new : WriterTree) → n < f.nodes → f.callee n ≡ None → i ≡ f.instr n → IsNoBranch i → is_jump_through i ≡ false → (room ≡ 0 → ⊥) →
-      u ≡ place_after i (f.uses n) v → m ≡ f.to n Next →
-      Steps f (part_def f p).entry ranges old mid (Const (f.addr n)) v from (pc_after (f.instr n) Next (f.addr n) (size f n) (names v (f.uses n))) (place_after (f.instr n) (f.uses n) v) (map So (conditions (f.instr n) Next (names v (f.uses n))) ++ new_facts (f.instr n) (f.addr n) (size f n) (f.uses n) v) t →
-      Leads f p ranges mid new (Const (f.addr m)) u (Some t) (body_on (room - 1) f p m u) → Leads f p ranges old new (Const (f.addr n)) v from (body_at room f p n v)
-  straight_leads n room v u i m from t old mid new node none is branch jump some place goes step rest =
-      subst (λ (b : BodyTree). Leads f p ranges old new (Const (f.addr n)) v from b) (goes_straight f p n room v i [] ss none is branch jump some refl) (record {
-        version = rest.version ∙ step.version;
-        each = λ s path ready here closed below.
-            let stood = step.each s path ready here in
-            let at = s.code.each n node in
-            let edge : has_edge (f.instr n) Next ≡ true = (λ j. has_edge (sym is j) Next) ∙ straight_edge i branch jump in
-            let facts : path ++ (map So (conditions i Next (names v (f.uses n))) ++ new_facts i (f.addr n) (size f n) (f.uses n) v) ≡ facts_after ss v.words v.mems path =
-            sym (append_assoc path (map So (conditions i Next (names v (f.uses n)))) (new_facts i (f.addr n) (size f n) (f.uses n) v)) ∙ sym (all-facts i (f.addr n) (size f n) (f.uses n) v path) in
-            let there = subst (λ (j : Instr). Here s mid (pc_after (f.instr n) Next (f.addr n) (size f n) (names v (f.uses n))) (place_after j (f.uses n) v) (path ++ (map So (conditions j Next (names v (f.uses n))) ++ new_facts j (f.addr n) (size f n) (f.uses n) v)) t) (sym is) stood.stands in
-            let stands = subst (λ (pc : WordTree). Here s mid pc (place_after i (f.uses n) v) (path ++ (map So (conditions i Next (names v (f.uses n))) ++ new_facts i (f.addr n) (size f n) (f.uses n) v)) t) (at.goes Next (names v (f.uses n)) none edge) there in
-            let known = subst (λ (fs : List FactTree). Here s mid (Const (f.addr (f.to n Next))) (place_after i (f.uses n) v) fs t) facts stands in
-            let led = there_on.each s (facts_after ss v.words v.mems path) stood.grown.ready known (closed_more (past f ranges s old) (past f ranges s mid) b stood.grown.keeps (closed_steps (past f ranges s old) ss b closed)) (below_steps s.bound ss b below) in
-            let leaves : body_leaves (group_in f ranges s) (part_def f p) (with_steps ss b) v.words v.mems path ≡ body_leaves (group_in f ranges s) (part_def f p) b (place_after i (f.uses n) v).words (place_after i (f.uses n) v).mems (facts_after ss v.words v.mems path) =
-            leaves-steps (group_in f ranges s) (part_def f p) ss b v.words v.mems path ∙ (λ j. body_leaves (group_in f ranges s) (part_def f p) b (all-words i (f.addr n) (size f n) (f.uses n) v j) (all-mems i (f.addr n) (size f n) (f.uses n) v j) (facts_after ss v.words v.mems path)) in
-            subst (λ ls. Led f p ranges s old new ls) (sym leaves) (led_after s old mid new (body_leaves (group_in f ranges s) (part_def f p) b (place_after i (f.uses n) v).words (place_after i (f.uses n) v).mems (facts_after ss v.words v.mems path)) stood.grown stood.cited led);
-      })
-    where
-      ss : List StepTree
-      ss = needs i (f.uses n) v ++ writes i (f.addr n) (size f n) (f.uses n) v
-
-      b : BodyTree
-      b = body_on (room - 1) f p (f.to n Next) (place_after i (f.uses n) v)
-
-      there_on : Leads f p ranges mid new (Const (f.addr (f.to n Next))) (place_after i (f.uses n) v) (Some t) b
-      there_on = subst (λ (w : VariableMap). Leads f p ranges mid new (Const (f.addr (f.to n Next))) w (Some t) (body_on (room - 1) f p (f.to n Next) w)) place
-          (subst (λ (k : ℕ). Leads f p ranges mid new (Const (f.addr k)) u (Some t) (body_on (room - 1) f p k u)) goes rest)
+  -- after the lines of instructions that lead on to one node
+  pub run_leads : (n room : ℕ) (v : VariableMap) (m : ℕ) (u : VariableMap) (left : ℕ) (from : Option CitedTree) (t : CitedTree) (old mid new : WriterTree) → Reaches f (front f (part_def f p).entry) ranges old mid n v room from m u left t →
+      Leads f p ranges mid new (Const (f.addr m)) u (Some t) (body_on left f p m u) → Leads f p ranges old new (Const (f.addr n)) v from (body_at room f p n v)
+  run_leads n room v m u left from t old mid new reaches rest = record {
+    version = rest.version ∙ reaches.steps.version;
+    each = λ s path ready here closed below.
+        let over = reaches.runs.over p in
+        let stood = reaches.steps.each s path ready here in
+        let led = rest.each s (path ++ reaches.more) stood.grown.ready stood.stands (closed_more (past f ranges s old) (past f ranges s mid) (body_on left f p m u) stood.grown.keeps (over.closed (past f ranges s old) closed)) (over.below s.bound below) in
+        subst (λ ls. Led f p ranges s old new ls) (sym (over.leaves (group_in f ranges s) path))
+        (led_after s old mid new (body_leaves (group_in f ranges s) (part_def f p) (body_on left f p m u) u.words u.mems (path ++ reaches.more)) stood.grown stood.cited led);
+  }
 
   -- after a branch, in both of its forms
   pub branch_leads : (n room : ℕ) (v : VariableMap) (i : Instr) (c : Cmp) (rs1 rs2 : ℕ) (offset : ℤ) (x y : ℕ) (from : Option CitedTree) (t1 t2 : CitedTree) (old a b d new : WriterTree) → n < f.nodes → f.callee n ≡ None → i ≡ f.instr n → i ≡ instr.Branch c rs1 rs2 offset → (room ≡ 0 → ⊥) →
       x ≡ f.to n Taken → y ≡ f.to n Next →
-      Steps f (part_def f p).entry ranges old a (Const (f.addr n)) v from (pc_after (f.instr n) Taken (f.addr n) (size f n) (names v (f.uses n))) (place_after (f.instr n) (f.uses n) v) (map So (conditions (f.instr n) Taken (names v (f.uses n))) ++ new_facts (f.instr n) (f.addr n) (size f n) (f.uses n) v) t1 →
+      Steps f (front f (part_def f p).entry) ranges old a (Const (f.addr n)) v from (pc_after (f.instr n) Taken (f.addr n) (size f n) (names v (f.uses n))) (place_after (f.instr n) (f.uses n) v) (map So (conditions (f.instr n) Taken (names v (f.uses n))) ++ new_facts (f.instr n) (f.addr n) (size f n) (f.uses n) v) t1 →
       Leads f p ranges a b (Const (f.addr x)) v (Some t1) (body_on (room - 1) f p x v) →
-      Steps f (part_def f p).entry ranges b d (Const (f.addr n)) v from (pc_after (f.instr n) Next (f.addr n) (size f n) (names v (f.uses n))) (place_after (f.instr n) (f.uses n) v) (map So (conditions (f.instr n) Next (names v (f.uses n))) ++ new_facts (f.instr n) (f.addr n) (size f n) (f.uses n) v) t2 →
+      Steps f (front f (part_def f p).entry) ranges b d (Const (f.addr n)) v from (pc_after (f.instr n) Next (f.addr n) (size f n) (names v (f.uses n))) (place_after (f.instr n) (f.uses n) v) (map So (conditions (f.instr n) Next (names v (f.uses n))) ++ new_facts (f.instr n) (f.addr n) (size f n) (f.uses n) v) t2 →
       Leads f p ranges d new (Const (f.addr y)) v (Some t2) (body_on (room - 1) f p y v) → Leads f p ranges old new (Const (f.addr n)) v from (body_at room f p n v)
   branch_leads n room v i c rs1 rs2 offset x y from t1 t2 old a b d new node none is branch some left right one go_one two go_two =
       subst (λ (z : BodyTree). Leads f p ranges old new (Const (f.addr n)) v from z) (goes_two_ways f p n room v i c rs1 rs2 offset none is branch some) (record {
@@ -344,7 +324,7 @@ module _ (f : Flow) (p : Part) (ranges : List Range) where
             let stands = subst (λ (pc : WordTree). Here s a pc v (path ++ So test ∷ []) t1) (at.goes Taken (names v (f.uses n)) none (edge Taken)) there in
             let led = on_one.each s (path ++ So test ∷ []) first.grown.ready stands (closed_more (past f ranges s old) (past f ranges s a) bx first.grown.keeps closed.0) below.0 in
             let half = led_after s old a b (body_leaves g (part_def f p) bx v.words v.mems (path ++ So test ∷ [])) first.grown first.cited led in
-            let second = two.each s path half.grown.ready (from_on f ranges s (part_def f p).entry old b (Const (f.addr n)) v path from half.grown here) in
+            let second = two.each s path half.grown.ready (from_on f ranges s (front f (part_def f p).entry) old b (Const (f.addr n)) v path from half.grown here) in
             let there2 = subst (λ (j : Instr). Here s d (pc_after (f.instr n) Next (f.addr n) (size f n) (names v (f.uses n))) (place_after j (f.uses n) v) (path ++ (map So (conditions j Next (names v (f.uses n))) ++ new_facts j (f.addr n) (size f n) (f.uses n) v)) t2) same second.stands in
             let stands2 = subst (λ (pc : WordTree). Here s d pc v (path ++ So (Neg test) ∷ []) t2) (at.goes Next (names v (f.uses n)) none (edge Next)) there2 in
             let led2 = on_two.each s (path ++ So (Neg test) ∷ []) second.grown.ready stands2
@@ -373,7 +353,7 @@ module _ (f : Flow) (p : Part) (ranges : List Range) where
 
   -- after a return
   pub return_leads : (n room : ℕ) (v : VariableMap) (from : Option CitedTree) (t : CitedTree) (old mid : WriterTree) → IsNear f p room n → f.callee n ≡ None → is_jump_through (f.instr n) ≡ true → (room ≡ 0 → ⊥) →
-      Steps f (part_def f p).entry ranges old mid (Const (f.addr n)) v from (pc_after (f.instr n) Next (f.addr n) (size f n) (names v (f.uses n))) (place_after (f.instr n) (f.uses n) v) (map So (conditions (f.instr n) Next (names v (f.uses n))) ++ new_facts (f.instr n) (f.addr n) (size f n) (f.uses n) v) t →
+      Steps f (front f (part_def f p).entry) ranges old mid (Const (f.addr n)) v from (pc_after (f.instr n) Next (f.addr n) (size f n) (names v (f.uses n))) (place_after (f.instr n) (f.uses n) v) (map So (conditions (f.instr n) Next (names v (f.uses n))) ++ new_facts (f.instr n) (f.addr n) (size f n) (f.uses n) v) t →
       Leads f p ranges old (citing t.number mid) (Const (f.addr n)) v from (body_at room f p n v)
   return_leads n room v from t old mid near uncalled jump some step =
       subst (λ (z : BodyTree). Leads f p ranges old (citing t.number mid) (Const (f.addr n)) v from z) (goes_back f p n room v (f.instr n) uncalled refl jump some) (record {

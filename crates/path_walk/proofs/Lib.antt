@@ -3,7 +3,8 @@ pub mod Calls
 pub mod CalledDefs
 pub mod ClosingLines
 pub mod ForgottenLines
-pub mod CallLemmas
+pub mod BlockLemmas
+mod CallLemmas
 pub mod Facts
 pub mod LineTexts
 pub mod WriterLemmas

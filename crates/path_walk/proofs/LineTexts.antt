@@ -29,7 +29,7 @@ use Rattle.proof_text.specs.LineLimits.{AreRisingFrom, IsAssertion, IsFact, IsTr
 use Rattle.code_parts.specs.Bodies.{Flow, VariableMap, current, fresh, is_store, names, place_after, start}
 use Rattle.path_walk.specs.inner.Acts.{IsFineInstruction, IsFineExit, all_mems, gives_over, mem_first, named_triple, new_facts, numbered, own_mem, results_at}
 use Rattle.path_walk.specs.inner.Histories.{exit_place, pc_of}
-use Rattle.path_walk.specs.inner.Writers.{IsFineCited, CitedTree, standing_at}
+use Rattle.path_walk.specs.inner.Writers.{IsFineCited, CitedTree, OriginTree, standing_on, standing_over}
 use Rattle.path_walk.proofs.Joins.{or-within, some-same}
 use Rattle.path_walk.proofs.Lines.{memory-same, own-rise}
 use Rattle.code_parts.proofs.Lists.{here, later, length-map, rising-short}
@@ -168,9 +168,9 @@ module _ (mem_count : ℕ) (v : VariableMap) (n : ℕ) (low : IsLow mem_count v 
     pub facts-fine : (form : Form) (a k : ℕ) → AllByRecursion IsFact (map So (conditions i form (names v q)) ++ new_facts i a k q v)
     facts-fine form a k = all-join IsFact (map So (conditions i form (names v q))) (new_facts i a k q v) (so-fine form) (news-fine a k)
 
-  pub standing-fine : (f : Flow) (pc : WordTree) → f.mems ≡ mem_count → AreRegistersFrom 1 f.regs → IsWord pc → IsAssertion (standing_at f pc v)
-  standing-fine f pc count rise fine = assertion-fine pc (λ r. Var (v.reg r)) f.regs (map (λ q. MemVar (v.memory q)) (range_with_len 0 f.mems)) fine rise named-fine
-      (mems-fine (λ q. MemVar (v.memory q)) 0 f.mems (λ p lt. memory-fine p (omega (arith, count, lt))))
+  pub standing-fine : (regs : List ℕ) (pc : WordTree) → AreRegistersFrom 1 regs → IsWord pc → IsAssertion (standing_over pc regs (range_with_len 0 mem_count) v)
+  standing-fine regs pc rise fine = assertion-fine pc (λ r. Var (v.reg r)) regs (map (λ q. MemVar (v.memory q)) (range_with_len 0 mem_count)) fine rise named-fine
+      (mems-fine (λ q. MemVar (v.memory q)) 0 mem_count (λ p lt. memory-fine p (omega (arith, lt))))
 
 -- ---- code
 
@@ -238,7 +238,7 @@ module _ (i : Instr) (form : Form) (a w : ℕ) (low_address : a < 2 ^ 64) (room 
     mems = omega arith;
   }) (omega arith) 0 (λ e. omega arith)
 
-  module _ (f : Flow) (rise : AreRegistersFrom 1 f.regs) (v : VariableMap) (n : ℕ) (low : IsLow f.mems v n) (few : n ≤ 2 ^ 15) (q : ℕ) (has : has_memory i ≡ true → q < f.mems) where
+  module _ (f : Flow) (own_regs : List ℕ) (rise : AreRegistersFrom 1 own_regs) (v : VariableMap) (n : ℕ) (low : IsLow f.mems v n) (few : n ≤ 2 ^ 15) (q : ℕ) (has : has_memory i ≡ true → q < f.mems) where
     -- with new variables, over any registers and memories, in any order
     named-fine-over : (regs ms : List ℕ) → AreRegistersFrom 1 regs → ((p : ℕ) → Contains ms p → p < f.mems) → IsTriple (named_triple i form a (length_of w) (word_code a w) regs ms q v)
     named-fine-over regs ms order among =
@@ -262,14 +262,14 @@ module _ (i : Instr) (form : Form) (a w : ℕ) (low_address : a < 2 ^ 64) (room 
         go true h (zero, lt, at) = subst (λ (k : ℕ). k < f.mems) at (h refl)
         go true h (suc k, lt, at) = absurd (omega (arith, lt))
 
-    pub act-fine : IsFineInstruction f i form a w q v
+    pub act-fine : IsFineInstruction own_regs f.mems i form a w q v
     act-fine = record {
       rule = λ k fits. (fits, words, mems (has_memory i) has);
       first = first-fine;
       current_over = over-fine f.mems v n low (omega (arith, few)) q has;
       named = named-fine-over (own i) (own_mem i q) (own-rise i) own-among;
-      wide = named-fine-over f.regs (mem_first i q f.mems) rise (first-among i q f.mems has);
-      in_order = named-fine-over f.regs (all_mems f.mems) rise (all-among f.mems);
+      wide = named-fine-over own_regs (mem_first i q f.mems) rise (first-among i q f.mems has);
+      in_order = named-fine-over own_regs (all_mems f.mems) rise (all-among f.mems);
     }
       where
         words : AreRisingFrom IsWord 0 (numbered 0 (map (λ r. Var (v.reg r)) (own i)))
@@ -335,10 +335,10 @@ module _ (f : Flow) (rise : AreRegistersFrom 1 f.regs) (few_mems : f.mems ≤ 2)
         let most = low.words in
         record {
           facts = fact-fine v n low few;
-          pre = standing-fine f.mems v n low (omega (arith, few)) f (Const entry) refl rise low_entry;
+          pre = standing-fine f.mems v n low (omega (arith, few)) f.regs (Const entry) rise low_entry;
           code = order;
           bytes = bytes;
-          post = standing-fine f.mems (exit_place f x v.words v.mems) (n + 1 + 31) (exit-low x v.words v.mems n low.words low.mems few) (omega (arith, few)) f (pc_of x v.words) refl rise (exit-pc-fine x v.words fine_exit (omega (arith, most, few)));
+          post = standing-fine f.mems (exit_place f x v.words v.mems) (n + 1 + 31) (exit-low x v.words v.mems n low.words low.mems few) (omega (arith, few)) f.regs (pc_of x v.words) rise (exit-pc-fine x v.words fine_exit (omega (arith, most, few)));
         }
 
     pub exit-standing-fine : (v : VariableMap) (n : ℕ) → IsLow f.mems v n → n ≤ 2 ^ 15 → (j : ℕ) (facts : List FactTree) (code : List Range) → j < 2 ^ 64 → facts ≡ Gives d k (current f v) (results_at f x v.words v.mems) ∷ [] → code ≡ ranges →
@@ -382,22 +382,23 @@ module _ (f : Flow) (rise : AreRegistersFrom 1 f.regs) (few_mems : f.mems ≤ 2)
 
 -- ---- one theorem after another
 
-module _ (f : Flow) (rise : AreRegistersFrom 1 f.regs) (few_mems : f.mems ≤ 2) (entry : ℕ) (low_entry : entry < 2 ^ 64) (st there : CitedTree) (first : IsFineCited st) (second : IsFineCited there) (more : List FactTree)
-    (are : AreMissing st.facts there.facts more) (ranges : List Range) (order : AreRanges ranges) (bytes : HaveBytes ranges) where
+module _ (st there : CitedTree) (first : IsFineCited st) (second : IsFineCited there) (more : List FactTree) (are : AreMissing st.facts there.facts more) (ranges : List Range) (order : AreRanges ranges) (bytes : HaveBytes ranges) where
   both-fine : AllByRecursion IsFact (st.facts ++ more)
   both-fine = all-join IsFact st.facts more first.facts (missing-fine IsFact st.facts there.facts more are second.facts)
 
-  pub whole-fine : (to : WordTree) (u : VariableMap) (n : ℕ) → IsWord to → IsLow f.mems u n → n < 2 ^ 16 → IsTriple (record { facts = st.facts ++ more; pre = standing_at f (Const entry) (start f); code = ranges; post = standing_at f to u })
-  whole-fine to u n fine low few = record {
-    facts = both-fine;
-    pre = standing-fine f.mems (start f) 31 (front-low f rise few_mems) (omega arith) f (Const entry) refl rise low_entry;
-    code = order;
-    bytes = bytes;
-    post = standing-fine f.mems u n low few f to refl rise fine;
-  }
-
   pub joined-fine : (k : ℕ) → k < 2 ^ 64 → IsFineCited (record { number = k; facts = st.facts ++ more; code = ranges })
   joined-fine k low = record { number = low; facts = both-fine; code = order; bytes = bytes }
+
+-- from a way's origin to a place
+module _ (f : Flow) (o : OriginTree) (rise : AreRegistersFrom 1 o.regs) (low_entry : o.entry < 2 ^ 64) (low_origin : IsLow f.mems o.place 65535) (to : WordTree) (u : VariableMap) (fine : IsWord to) (low : IsLow f.mems u 65535) where
+  pub triple-fine : (facts : List FactTree) (ranges : List Range) → AllByRecursion IsFact facts → AreRanges ranges → HaveBytes ranges → IsTriple (record { facts = facts; pre = standing_on f o (Const o.entry) o.place; code = ranges; post = standing_on f o to u })
+  triple-fine facts ranges facts_fine order bytes = record {
+    facts = facts_fine;
+    pre = standing-fine f.mems o.place 65535 low_origin (omega arith) o.regs (Const o.entry) rise low_entry;
+    code = order;
+    bytes = bytes;
+    post = standing-fine f.mems u 65535 low (omega arith) o.regs to rise fine;
+  }
 
 -- codes within one agree, and so is their union
 pub agree_within : (x y z : Bytes) → IsWithin x z → IsWithin y z → Agree x y

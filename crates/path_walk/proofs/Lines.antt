@@ -17,22 +17,22 @@ use Rattle.triple_kernel.specs.Tree.{FactTree, WordIs, MemIs, So, TripleTree}
 use Rattle.triple_kernel.specs.Rules.{IsInst, IsWeakened}
 use Rattle.triple_kernel.specs.Swap.{WordsStated, MemsStated, SwapWord, SwapMem, SwapRegister}
 use Rattle.tailrec_lang.specs.Registers.{AreRegistersFrom}
-use Rattle.frame_compose.specs.Rules.{is_listed, listed as those_listed, IsFramed, AreExchanged, IsExchanged}
+use Rattle.frame_compose.specs.Rules.{is_listed, listed as those_listed, further, IsFramed, AreExchanged, IsExchanged}
 use Rattle.verdicts.specs.Instance.{put_for}
 use Rattle.triple_kernel.specs.declared.form.Form.{Form}
 use Rattle.rv_decode.specs.Registers.{is_read, registers_where, sources, destination}
 use Rattle.instr_axioms.specs.Terms.{Names, has_memory, conditions, result, word_after, memory_after, pc_after, has_form}
 use Rattle.instr_axioms.specs.Axiom.{register_with, memory_if, triple_over, is_own, own, variables_for, own_triple, triple_if, axiom_of, word_code}
 use Rattle.instr_axioms.proofs.Instances.{Becomes, is_inst}
-use Rattle.code_parts.specs.Bodies.{Flow, VariableMap, names, is_store, wrote, stored, place_after}
+use Rattle.code_parts.specs.Bodies.{VariableMap, names, is_store, wrote, stored, place_after}
 use Rattle.path_walk.specs.Further.{is_crossed}
-use Rattle.path_walk.specs.inner.Acts.{all_mems, mem_after, mem_first, named_own, named_triple, named_wide, new_facts, own_mem, own_mems, own_words, triple_on, numbered}
+use Rattle.path_walk.specs.inner.Acts.{HasOwn, all_mems, mem_after, mem_first, named_own, named_triple, named_wide, new_facts, own_mem, own_mems, own_words, triple_on, numbered}
 use Rattle.code_parts.proofs.Lists.{here, later, in_range, is_in, in-true}
 use Rattle.path_walk.proofs.Lists.{smaller-is, listed-place}
 use Rattle.code_parts.proofs.Registers.{filter-has, filter-rise, or_left, or_right}
 use Rattle.code_parts.proofs.Counts.{store-writes_none}
 
-filter-test : (p : ℕ → Bool) (xs : List ℕ) (r : ℕ) → Contains (filter p xs) r → p r ≡ true
+pub filter-test : (p : ℕ → Bool) (xs : List ℕ) (r : ℕ) → Contains (filter p xs) r → p r ≡ true
 filter-test p [] r c = absurd (omega (arith, c.1))
 filter-test p (x ∷ xs) r c = go (p x) refl c (λ d. filter-test p xs r d)
   where
@@ -215,19 +215,19 @@ exchanged-mems : (ms ns : List ℕ) (x : ℕ → MemTree) → ms ≡ 1 ∷ 0 ∷
 exchanged-mems ms ns x m n = subst (λ (zs : List ℕ). AreExchanged (map x zs) (map x ns)) (sym m) (subst (λ (zs : List ℕ). AreExchanged (x 1 ∷ x 0 ∷ []) (map x zs)) (sym n) refl)
 
 -- so they are exchanged
-pub is_exchanged : (f : Flow) (i : Instr) (form : Form) (a w q : ℕ) (v : VariableMap) → (has_memory i ≡ true → q < f.mems) → f.mems ≡ 2 → is_crossed i q ≡ true →
-    IsExchanged (named_wide f i form a w (mem_first i q f.mems) q v) (named_wide f i form a w (all_mems f.mems) q v)
-is_exchanged f i form a w q v low two is =
-    let front = (crossed-second i q f.mems low two is).1 in
+pub is_exchanged : (regs : List ℕ) (mems : ℕ) (i : Instr) (form : Form) (a w q : ℕ) (v : VariableMap) → (has_memory i ≡ true → q < mems) → mems ≡ 2 → is_crossed i q ≡ true →
+    IsExchanged (named_wide regs i form a w (mem_first i q mems) q v) (named_wide regs i form a w (all_mems mems) q v)
+is_exchanged regs mems i form a w q v low two is =
+    let front = (crossed-second i q mems low two is).1 in
     record {
       facts = refl;
       code = refl;
       pre_pc = refl;
       pre_regs = refl;
-      pre_mems = exchanged-mems (mem_first i q f.mems) (all_mems f.mems) (λ p. MemVar (v.memory p)) front (ap all_mems two);
+      pre_mems = exchanged-mems (mem_first i q mems) (all_mems mems) (λ p. MemVar (v.memory p)) front (ap all_mems two);
       post_pc = refl;
       post_regs = refl;
-      post_mems = exchanged-mems (mem_first i q f.mems) (all_mems f.mems) (λ p. MemVar ((place_after i q v).memory p)) front (ap all_mems two);
+      post_mems = exchanged-mems (mem_first i q mems) (all_mems mems) (λ p. MemVar ((place_after i q v).memory p)) front (ap all_mems two);
     }
 
 -- over its own registers, its memory is the one that it has
@@ -249,46 +249,45 @@ own-on i form a k code q v =
 
 -- ---- frame
 
-module _ (f : Flow) (i : Instr) (form : Form) (a w q : ℕ) (rise : AreRegistersFrom 1 f.regs) (within : (r : ℕ) → Contains (own i) r → Contains f.regs r) (v : VariableMap) where
+-- registers among others: they are those of the others that are listed, and the further ones are the same where their terms are
+module _ (few regs : List ℕ) (low : AreRegistersFrom 1 few) (rise : AreRegistersFrom 1 regs) (within : (r : ℕ) → Contains few r → Contains regs r) where
+  pub wider-regs : (x : ℕ → WordTree) → map (register_with x) few ≡ those_listed (map (register_with x) few) (map (register_with x) regs)
+  wider-regs x =
+      sym (passing x x (λ r. is_listed (map (register_with x) few) r) (is_in few) regs (λ r c. any-map x few r) (λ r c t. refl)
+      ∙ ap (map (register_with x)) (smaller-is 1 few regs low rise within))
+
+  pub further-regs : (x y : ℕ → WordTree) → ((r : ℕ) → Contains regs r → not (is_in few r) ≡ true → x r ≡ y r) → further (map (register_with x) few) (map (register_with x) regs) ≡ further (map (register_with y) few) (map (register_with y) regs)
+  further-regs x y apart =
+      passing x y (λ r. not (is_listed (map (register_with x) few) r)) (λ r. not (is_in few r)) regs (λ r c. ap not (any-map x few r)) apart
+      ∙ sym (passing y y (λ r. not (is_listed (map (register_with y) few) r)) (λ r. not (is_in few r)) regs (λ r c. ap not (any-map y few r)) (λ r c t. refl))
+
+pub not_in : (few : List ℕ) (r : ℕ) → not (is_in few r) ≡ true → Contains few r → ⊥
+not_in few r t c = let clash : true ≡ false = sym t ∙ ap not (in-true few r c) in cc
+
+-- a register that an instruction doesn't have keeps its variable
+pub kept-apart : (i : Instr) (q : ℕ) (v : VariableMap) (r : ℕ) → 1 ≤ r → r ≤ 31 → (Contains (own i) r → ⊥) → v.reg r ≡ (place_after i q v).reg r
+kept-apart i q v r low high none =
+    kept-register i q v r (ne_eqb r (destination i) (λ e. none (own-has i r low high (or_left (eqb (destination i) r) (is_read i r) (eq-eqb (destination i) r (sym e))))))
+
+module _ (regs : List ℕ) (mems : ℕ) (i : Instr) (form : Form) (a w q : ℕ) (rise : AreRegistersFrom 1 regs) (within : HasOwn regs i) (v : VariableMap) where
   abbrev before : ℕ → WordTree
   before r = Var (v.reg r)
 
   abbrev after : ℕ → WordTree
   after r = Var ((place_after i q v).reg r)
 
-  own-wider : (x : ℕ → WordTree) → map (register_with x) (own i) ≡ those_listed (map (register_with x) (own i)) (map (register_with x) f.regs)
-  own-wider x =
-      sym (passing x x (λ r. is_listed (map (register_with x) (own i)) r) (is_in (own i)) f.regs (λ r c. any-map x (own i) r) (λ r c t. refl)
-      ∙ ap (map (register_with x)) (smaller-is 1 (own i) f.regs (own-rise i) rise within))
-
-  apart : (r : ℕ) → Contains f.regs r → not (is_in (own i) r) ≡ true → before r ≡ after r
-  apart r c t = ap Var (kept-register i q v r other)
-    where
-      not_in : (b : Bool) → not b ≡ true → b ≡ false
-      not_in true e = absurd (cc)
-      not_in false e = refl
-
-      other : eqb r (destination i) ≡ false
-      other = ne_eqb r (destination i) (λ e.
-          let range = in_range 1 f.regs r rise c in
-          let owned = own-has i r range.0 range.1 (or_left (eqb (destination i) r) (is_read i r) (eq-eqb (destination i) r (sym e))) in
-          let yes_in = in-true (own i) r owned in
-          let no_in = not_in (is_in (own i) r) t in
-          let clash : true ≡ false = sym yes_in ∙ no_in in cc)
-
-  pub is_framed : IsFramed (named_own i form a w q v) (named_wide f i form a w (mem_first i q f.mems) q v)
+  pub is_framed : IsFramed (named_own i form a w q v) (named_wide regs i form a w (mem_first i q mems) q v)
   is_framed = record {
     facts = refl;
     code = refl;
     pre_pc = refl;
     post_pc = refl;
-    pre_regs = own-wider before;
-    post_regs = own-wider after;
-    further_regs = passing before after (λ r. not (is_listed (map (register_with before) (own i)) r)) (λ r. not (is_in (own i) r)) f.regs (λ r c. ap not (any-map before (own i) r)) apart
-        ∙ sym (passing after after (λ r. not (is_listed (map (register_with after) (own i)) r)) (λ r. not (is_in (own i) r)) f.regs (λ r c. ap not (any-map after (own i) r)) (λ r c t. refl));
-    pre_mems = wider-mems (has_memory i) q (filter (λ p. not (eqb p q)) (all_mems f.mems)) (all_mems f.mems) (λ p. MemVar (v.memory p)) (λ p. MemVar (v.memory p)) (λ e. refl) (λ e. refl);
-    post_mems = wider-mems (has_memory i) q (filter (λ p. not (eqb p q)) (all_mems f.mems)) (all_mems f.mems) (λ p. MemVar (v.memory p)) (λ p. MemVar ((place_after i q v).memory p))
-        (λ e. others-same i q v (all_mems f.mems)) (λ e. all-same i q v (all_mems f.mems) (store-has_memory i e));
+    pre_regs = wider-regs (own i) regs (own-rise i) rise within before;
+    post_regs = wider-regs (own i) regs (own-rise i) rise within after;
+    further_regs = further-regs (own i) regs (own-rise i) rise within before after (λ r c t. let range = in_range 1 regs r rise c in ap Var (kept-apart i q v r range.0 range.1 (not_in (own i) r t)));
+    pre_mems = wider-mems (has_memory i) q (filter (λ p. not (eqb p q)) (all_mems mems)) (all_mems mems) (λ p. MemVar (v.memory p)) (λ p. MemVar (v.memory p)) (λ e. refl) (λ e. refl);
+    post_mems = wider-mems (has_memory i) q (filter (λ p. not (eqb p q)) (all_mems mems)) (all_mems mems) (λ p. MemVar (v.memory p)) (λ p. MemVar ((place_after i q v).memory p))
+        (λ e. others-same i q v (all_mems mems)) (λ e. all-same i q v (all_mems mems) (store-has_memory i e));
   }
 
 -- ---- inst

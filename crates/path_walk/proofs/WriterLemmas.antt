@@ -8,7 +8,7 @@ use Rattle.verdicts.specs.Instance.{AreInstancesBy, History, InstanceBy, Meets, 
 use Rattle.code_parts.specs.Bodies.{Flow, VariableMap}
 use Rattle.path_walk.specs.inner.Histories.{IsCounted, Keeps}
 use Rattle.verdicts.specs.Further.{further_of}
-use Rattle.path_walk.specs.inner.Writers.{FromAs, Grown, IsReady, Restated, WriterTree, Context, CitedTree, StandsAs, adding, group_in, past, stating}
+use Rattle.path_walk.specs.inner.Writers.{FromAs, Grown, IsReady, Restated, WriterTree, Context, CitedTree, OriginTree, StandsAs, adding, group_in, past, stating}
 use Rattle.path_walk.proofs.RightLines.{Made, fold-join, held_last, joined, made_one}
 
 module _ (f : Flow) (ranges : List Range) (s : Context f ranges) where
@@ -91,14 +91,14 @@ module _ (f : Flow) (ranges : List Range) (s : Context f ranges) where
       })
 
   -- what stands goes on to do so
-  pub stands_on : (entry : ℕ) (a b : WriterTree) (pc : WordTree) (v : VariableMap) (path : List FactTree) (t : CitedTree) → Grown f ranges s a b → StandsAs f entry ranges (past f ranges s a) pc v path t →
-      StandsAs f entry ranges (past f ranges s b) pc v path t
-  stands_on entry a b pc v path t m x = record { held = m.keeps.theorem t.number _ x.held; facts = x.facts; code = x.code }
+  pub stands_on : (o : OriginTree) (a b : WriterTree) (pc : WordTree) (v : VariableMap) (path : List FactTree) (t : CitedTree) → Grown f ranges s a b → StandsAs f o ranges (past f ranges s a) pc v path t →
+      StandsAs f o ranges (past f ranges s b) pc v path t
+  stands_on o a b pc v path t m x = record { held = m.keeps.theorem t.number _ x.held; facts = x.facts; code = x.code }
 
-  pub from_on : (entry : ℕ) (a b : WriterTree) (pc : WordTree) (v : VariableMap) (path : List FactTree) (from : Option CitedTree) → Grown f ranges s a b →
-      FromAs f entry ranges (past f ranges s a) pc v path from → FromAs f entry ranges (past f ranges s b) pc v path from
-  from_on entry a b pc v path None m here = here
-  from_on entry a b pc v path (Some t) m here = stands_on entry a b pc v path t m here
+  pub from_on : (o : OriginTree) (a b : WriterTree) (pc : WordTree) (v : VariableMap) (path : List FactTree) (from : Option CitedTree) → Grown f ranges s a b →
+      FromAs f o ranges (past f ranges s a) pc v path from → FromAs f o ranges (past f ranges s b) pc v path from
+  from_on o a b pc v path None m here = here
+  from_on o a b pc v path (Some t) m here = stands_on o a b pc v path t m here
 
 -- the text stays of its version
 pub restated-version : (held : ℕ) (rule : RuleTree) (known t : TripleTree) (old new : WriterTree) (k : ℕ) → Restated held rule known t old new k → new.version ≡ old.version

@@ -14,6 +14,7 @@ ghost use Rattle.code_parts.specs.Kept.{flow_in};
 ghost use Rattle.path_walk.specs.inner.Writers.{IsOver, Leads, writer_tree, cited_tree};
 ghost use Rattle.code_parts.specs.VariableMaps.{place_of};
 
+use crate::blocks::straight_lines;
 use crate::cut_lines::{end_lines, entry_of, head_lines};
 use crate::enter_lines::{FunctionCall, enter};
 use crate::instruction_lines::step;
@@ -85,7 +86,6 @@ fn acting_lines(
     flow.law_of_code();
     let entry = entry_of(flow, p);
     let i = flow.instr(n);
-    let q = flow.uses(n);
     if is_jump_through(i) {
         let t = step(alloc, flow, entry, n, Form::Next, place, from, log)?;
         return log.cite(&t);
@@ -100,10 +100,17 @@ fn acting_lines(
             lines_to(alloc, flow, p, to, place, room - 1, &t, log)
         }
         _ => {
-            let t = step(alloc, flow, entry, n, Form::Next, place, from, log)?;
-            let to = flow.to(n, Form::Next);
-            let next = after(i, q, *place);
-            lines_to(alloc, flow, p, to, &next, room - 1, &t, log)
+            let end = straight_lines(alloc, flow, entry, n, place, room, from, log)?;
+            lines_to(
+                alloc,
+                flow,
+                p,
+                end.node,
+                &end.place,
+                end.room,
+                &end.theorem,
+                log,
+            )
         }
     }
 }

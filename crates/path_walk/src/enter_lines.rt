@@ -12,7 +12,7 @@ ghost use Rattle.code_parts.specs.VariableMaps.{place_of};
 ghost use Rattle.path_walk.specs.inner.Acts.{Entered, steered, steered_standing};
 ghost use Rattle.path_walk.specs.inner.Writers.{IsOver, cited_tree, writer_tree};
 
-use crate::compose::{go_on, whole_triple};
+use crate::compose::{front, go_on, triple_from};
 use crate::exit_lines::leave_by;
 use crate::proof_writer::{CitedTheorem, ProofWriter};
 use crate::subs::{law_of_memories, place_at};
@@ -79,10 +79,10 @@ fn steer(
     law_of_memories(flow, place);
     let facts = steered_facts(alloc, t, w, back)?;
     let code = copy_code(alloc, t.code())?;
-    let stated = whole_triple(
+    let stated = triple_from(
         alloc,
         flow,
-        entry,
+        &front(flow, entry),
         facts.as_slice(),
         &code,
         Word::Const(back),

@@ -19,10 +19,13 @@ ghost use Rattle.code_parts.specs.Graph.{StandsAt};
 ghost use Rattle.path_walk.specs.Further.{IsVersionFor, is_crossed as crosses};
 ghost use Rattle.path_walk.specs.inner.Acts as spec;
 ghost use Rattle.code_parts.specs.Kept.{flow_in};
-ghost use Rattle.path_walk.specs.inner.Writers.{IsOver, Steps, writer_tree, cited_tree};
+ghost use Rattle.tailrec_lang.specs.Registers.{AreRegistersFrom};
+ghost use Rattle.path_walk.specs.inner.Writers as logs;
+ghost use Rattle.path_walk.specs.inner.Writers.{IsOrigin, IsOver, Steps, origin_of, writer_tree, cited_tree};
 ghost use Rattle.code_parts.specs.VariableMaps.{place_of};
 
-use crate::compose::go_on;
+use crate::compose::{front, go_on_from};
+use crate::origin::Origin;
 use crate::proof_writer::{CitedTheorem, ProofWriter};
 use crate::subs::{law_of_memories, own_mems, own_words};
 use code_parts::{Flow, VariableMap, after};
@@ -119,7 +122,7 @@ fn standing_over(
     requires { All (λ p. p < 2) mems.now }
     ensures { IfOk result (λ a.
         assertion_tree a
-        ≡ spec.standing_over (word_tree pc) regs.now mems.now (place_of place.now)) }
+        ≡ logs.standing_over (word_tree pc) regs.now mems.now (place_of place.now)) }
 {
     let regs = words_before(alloc, regs, &place.names)?;
     let mems = mems_before(alloc, mems, place)?;
@@ -323,35 +326,12 @@ fn is_crossed(i: Instr, q: u8) -> bool
     has_memory(i) && q != 0
 }
 
-/// The triple of an instruction over all registers and over these memories, with new variables for
-/// what it writes.
-fn wide_triple(
-    alloc: Global,
-    flow: &Flow<'_>,
-    at: InstructionAt,
-    mems: &[u8],
-    place: &VariableMap,
-) -> Result<Triple, NoMemory>
-    requires words { place.now.words < 2 ^ 15 }
-    requires mems { place.now.mems < 2 ^ 15 }
-    requires named { destination at.instr < 32 }
-    requires memory { at.memory < 2 }
-    requires memories { All (λ p. p < 2) mems.now }
-    ensures { IfOk result (λ t.
-        triple_tree t
-        ≡ spec.named_wide (flow_in flow.now) at.instr at.form at.addr at.word mems.now at.memory
-        (place_of place.now)) }
-{
-    let regs = flow.regs();
-    let triple = named_triple(alloc, at, regs, mems, place)?;
-    Ok(triple)
-}
-
-/// States the triple of an instruction over all registers and memories, where its own memory, if it
-/// has one, is the first.
+/// States the triple of an instruction over these registers and all memories, where its own memory,
+/// if it has one, is the first.
 fn put_first(
     alloc: Global,
     flow: &Flow<'_>,
+    regs: &[u8],
     at: InstructionAt,
     place: &VariableMap,
     named: u64,
@@ -363,24 +343,25 @@ fn put_first(
     requires memory { at.memory < 2 }
     requires low { terms.has_memory at.instr ≡ true → at.memory < (flow_in flow.now).mems }
     requires first { crosses at.instr at.memory ≡ false }
-    requires in_order { IsTriple (spec.named_wide (flow_in flow.now) at.instr at.form at.addr
+    requires in_order { IsTriple (spec.named_wide regs.now at.instr at.form at.addr
         at.word (spec.all_mems (flow_in flow.now).mems) at.memory (place_of place.now)) }
     ensures widened { IfOk result (λ k.
-        spec.Widened (flow_in flow.now) at.instr at.form at.addr at.word at.memory
+        spec.Widened regs.now (flow_in flow.now).mems at.instr at.form at.addr at.word at.memory
         (place_of place.now) named (writer_tree log.old) (writer_tree log.new) k) }
     ensures fits { IfOk result (λ k. k < 2 ^ 64) }
 {
     let known = own_named(alloc, at, place)?;
-    let wide = wide_triple(alloc, flow, at, all_mems(flow), place)?;
+    let wide = named_triple(alloc, at, regs, all_mems(flow), place)?;
     let number = log.restate(named, &known, Rule::Frame(named), wide)?;
     Ok(number)
 }
 
-/// States the triple of an instruction over all registers and memories, where its own memory is the
-/// second of two: it is framed with that in front, and the memories are exchanged.
+/// States the triple of an instruction over these registers and all memories, where its own memory
+/// is the second of two: it is framed with that in front, and the memories are exchanged.
 fn put_crossed(
     alloc: Global,
     flow: &Flow<'_>,
+    regs: &[u8],
     at: InstructionAt,
     place: &VariableMap,
     named: u64,
@@ -394,29 +375,30 @@ fn put_crossed(
     requires crossed { crosses at.instr at.memory ≡ true }
     requires version { log.old.version ≡ Four }
     requires two { (flow_in flow.now).mems ≡ 2 }
-    requires wide { IsTriple (spec.named_wide (flow_in flow.now) at.instr at.form at.addr at.word
+    requires wide { IsTriple (spec.named_wide regs.now at.instr at.form at.addr at.word
         (spec.mem_first at.instr at.memory (flow_in flow.now).mems) at.memory
         (place_of place.now)) }
-    requires in_order { IsTriple (spec.named_wide (flow_in flow.now) at.instr at.form at.addr
+    requires in_order { IsTriple (spec.named_wide regs.now at.instr at.form at.addr
         at.word (spec.all_mems (flow_in flow.now).mems) at.memory (place_of place.now)) }
     ensures widened { IfOk result (λ k.
-        spec.Widened (flow_in flow.now) at.instr at.form at.addr at.word at.memory
+        spec.Widened regs.now (flow_in flow.now).mems at.instr at.form at.addr at.word at.memory
         (place_of place.now) named (writer_tree log.old) (writer_tree log.new) k) }
     ensures fits { IfOk result (λ k. k < 2 ^ 64) }
 {
     let known = own_named(alloc, at, place)?;
-    let crossed = wide_triple(alloc, flow, at, &[1, 0], place)?;
-    let wide = wide_triple(alloc, flow, at, all_mems(flow), place)?;
+    let crossed = named_triple(alloc, at, regs, &[1, 0], place)?;
+    let wide = named_triple(alloc, at, regs, all_mems(flow), place)?;
     let framed = log.restate(named, &known, Rule::Frame(named), crossed)?;
     let number = log.state_further(framed, wide)?;
     Ok(number)
 }
 
-/// States the triple of an instruction over all registers and memories, in order: it is framed with
-/// its own memory in front, and where that is the second of two they are exchanged.
+/// States the triple of an instruction over these registers and all memories, in order: it is
+/// framed with its own memory in front, and where that is the second of two they are exchanged.
 fn put_wide(
     alloc: Global,
     flow: &Flow<'_>,
+    regs: &[u8],
     at: InstructionAt,
     place: &VariableMap,
     named: u64,
@@ -429,28 +411,29 @@ fn put_wide(
     requires low { terms.has_memory at.instr ≡ true → at.memory < (flow_in flow.now).mems }
     requires crossed { crosses at.instr at.memory ≡ true
         → (log.old.version ≡ Four) × ((flow_in flow.now).mems ≡ 2) }
-    requires wide { IsTriple (spec.named_wide (flow_in flow.now) at.instr at.form at.addr at.word
+    requires wide { IsTriple (spec.named_wide regs.now at.instr at.form at.addr at.word
         (spec.mem_first at.instr at.memory (flow_in flow.now).mems) at.memory
         (place_of place.now)) }
-    requires in_order { IsTriple (spec.named_wide (flow_in flow.now) at.instr at.form at.addr
+    requires in_order { IsTriple (spec.named_wide regs.now at.instr at.form at.addr
         at.word (spec.all_mems (flow_in flow.now).mems) at.memory (place_of place.now)) }
     ensures widened { IfOk result (λ k.
-        spec.Widened (flow_in flow.now) at.instr at.form at.addr at.word at.memory
+        spec.Widened regs.now (flow_in flow.now).mems at.instr at.form at.addr at.word at.memory
         (place_of place.now) named (writer_tree log.old) (writer_tree log.new) k) }
     ensures fits { IfOk result (λ k. k < 2 ^ 64) }
 {
     if !is_crossed(at.instr, at.memory) {
-        return put_first(alloc, flow, at, place, named, log);
+        return put_first(alloc, flow, regs, at, place, named, log);
     }
-    put_crossed(alloc, flow, at, place, named, log)
+    put_crossed(alloc, flow, regs, at, place, named, log)
 }
 
 /// The lines of an instruction in that form, where q is the memory that it loads from or stores to,
 /// if it does: its axiom, over the current variables, with new variables for what it writes, and
-/// over all registers and memories. None of them states what the one before it does.
+/// over these registers and all memories. None of them states what the one before it does.
 fn instruction_lines(
     alloc: Global,
     flow: &Flow<'_>,
+    regs: &[u8],
     at: InstructionAt,
     place: &VariableMap,
     log: &mut ProofWriter,
@@ -462,28 +445,31 @@ fn instruction_lines(
     requires low { terms.has_memory at.instr ≡ true → at.memory < (flow_in flow.now).mems }
     requires crossed { crosses at.instr at.memory ≡ true
         → (log.old.version ≡ Four) × ((flow_in flow.now).mems ≡ 2) }
-    requires fine { spec.IsFineInstruction (flow_in flow.now) at.instr at.form at.addr at.word
-        at.memory (place_of place.now) }
+    requires fine { spec.IsFineInstruction regs.now (flow_in flow.now).mems at.instr at.form at.addr
+        at.word at.memory (place_of place.now) }
     ensures acted { IfOk result (λ k.
-        spec.Acted (flow_in flow.now) at.instr at.form at.addr at.word at.memory
+        spec.Acted regs.now (flow_in flow.now).mems at.instr at.form at.addr at.word at.memory
         (place_of place.now) (writer_tree log.old) (writer_tree log.new) k) }
     ensures fits { IfOk result (λ k. k < 2 ^ 64) }
 {
     let current = put_current(alloc, at, place, log)?;
     let named = put_named(alloc, at, place, current, log)?;
-    let number = put_wide(alloc, flow, at, place, named, log)?;
+    let number = put_wide(alloc, flow, regs, at, place, named, log)?;
     Ok(number)
 }
 
-/// The lines of a node's instruction in that form, and the theorem that they end with.
+/// The lines of a node's instruction in that form over these registers, and the theorem that they
+/// end with.
 fn act(
     alloc: Global,
     flow: &Flow<'_>,
+    regs: &[u8],
     n: u32,
     form: Form,
     place: &VariableMap,
     log: &mut ProofWriter,
 ) -> Result<CitedTheorem, NoMemory>
+    requires registers { AreRegistersFrom 1 regs.now }
     requires version { IsVersionFor (flow_in flow.now) log.old.version }
     requires node { n < (flow_in flow.now).nodes }
     requires words { place.now.words < 2 ^ 15 }
@@ -493,7 +479,7 @@ fn act(
         × (cited_tree t
         ≡ spec.act_standing ((flow_in flow.now).instr n) form ((flow_in flow.now).addr n)
         ((flow_in flow.now).word n) ((flow_in flow.now).uses n) (place_of place.now) t.number)
-        × spec.Acted (flow_in flow.now) ((flow_in flow.now).instr n) form
+        × spec.Acted regs.now (flow_in flow.now).mems ((flow_in flow.now).instr n) form
         ((flow_in flow.now).addr n) ((flow_in flow.now).word n) ((flow_in flow.now).uses n)
         (place_of place.now) (writer_tree log.old) (writer_tree log.new) t.number) }
 {
@@ -510,14 +496,67 @@ fn act(
         word,
         memory: q,
     };
-    let number = instruction_lines(alloc, flow, at, place, log)?;
+    let number = instruction_lines(alloc, flow, regs, at, place, log)?;
     let known = facts_of(alloc, at, place)?;
     let code = word_code(alloc, addr, word)?;
     Ok(CitedTheorem::new(number, known, code))
 }
 
-/// The lines from a node on to where its instruction leads in that form, and the theorem that leads
-/// there.
+/// The lines from a node on to where its instruction leads in that form, over the registers of the
+/// way's origin, and the theorem that leads there.
+pub fn step_from(
+    alloc: Global,
+    flow: &Flow<'_>,
+    origin: &Origin<'_>,
+    n: u32,
+    form: Form,
+    place: &VariableMap,
+    from: Option<&CitedTheorem>,
+    log: &mut ProofWriter,
+) -> Result<CitedTheorem, NoMemory>
+    requires origin { IsOrigin (origin_of origin.now) }
+    requires own { spec.HasOwn origin.now.regs.now ((flow_in flow.now).instr n) }
+    requires version { IsVersionFor (flow_in flow.now) log.old.version }
+    requires node { n < (flow_in flow.now).nodes }
+    requires form { terms.has_form ((flow_in flow.now).instr n) form ≡ true }
+    requires words { place.now.words < 2 ^ 15 }
+    requires mems { place.now.mems < 2 ^ 15 }
+    requires code { IsOver flow.now.code (option_map cited_tree (option_copied from)) }
+    ensures steps { IfOk result (λ t.
+        Steps (flow_in flow.now) (origin_of origin.now) flow.now.code (writer_tree log.old)
+        (writer_tree log.new) (Const ((flow_in flow.now).addr n)) (place_of place.now)
+        (option_map cited_tree (option_copied from.entry))
+        (terms.pc_after ((flow_in flow.now).instr n) form ((flow_in flow.now).addr n)
+        (bodies.size (flow_in flow.now) n)
+        (bodies.names (place_of place.now) ((flow_in flow.now).uses n)))
+        (bodies.place_after ((flow_in flow.now).instr n) ((flow_in flow.now).uses n)
+        (place_of place.now))
+        (map So (terms.conditions ((flow_in flow.now).instr n) form
+        (bodies.names (place_of place.now) ((flow_in flow.now).uses n)))
+        ++ spec.new_facts ((flow_in flow.now).instr n) ((flow_in flow.now).addr n)
+        (bodies.size (flow_in flow.now) n) ((flow_in flow.now).uses n) (place_of place.now))
+        (cited_tree t)) }
+    ensures code { IfOk result (λ t. IsWithin (range_bytes t.code) (range_bytes flow.now.code)) }
+{
+    law_of_memories(flow, place);
+    let last = act(alloc, flow, origin.regs, n, form, place, log)?;
+    let i = flow.instr(n);
+    let q = flow.uses(n);
+    let pc = pc_after(
+        alloc,
+        i,
+        form,
+        flow.addr(n),
+        flow.size(n),
+        &place.names_of(q),
+    )?;
+    let next = after(i, q, *place);
+    let there = go_on_from(alloc, flow, origin, from, last, pc, &next, log)?;
+    Ok(there)
+}
+
+/// The lines from a node on to where its instruction leads in that form, over all registers, and
+/// the theorem that leads there.
 pub fn step(
     alloc: Global,
     flow: &Flow<'_>,
@@ -535,9 +574,9 @@ pub fn step(
     requires mems { place.now.mems < 2 ^ 15 }
     requires code { IsOver flow.now.code (option_map cited_tree (option_copied from)) }
     ensures steps { IfOk result (λ t.
-        Steps (flow_in flow.now) entry flow.now.code (writer_tree log.old) (writer_tree log.new)
-        (Const ((flow_in flow.now).addr n)) (place_of place.now)
-        (option_map cited_tree (option_copied from.entry))
+        Steps (flow_in flow.now) (logs.front (flow_in flow.now) entry) flow.now.code
+        (writer_tree log.old) (writer_tree log.new) (Const ((flow_in flow.now).addr n))
+        (place_of place.now) (option_map cited_tree (option_copied from.entry))
         (terms.pc_after ((flow_in flow.now).instr n) form ((flow_in flow.now).addr n)
         (bodies.size (flow_in flow.now) n)
         (bodies.names (place_of place.now) ((flow_in flow.now).uses n)))
@@ -550,19 +589,8 @@ pub fn step(
         (cited_tree t)) }
     ensures code { IfOk result (λ t. IsWithin (range_bytes t.code) (range_bytes flow.now.code)) }
 {
-    law_of_memories(flow, place);
-    let last = act(alloc, flow, n, form, place, log)?;
-    let i = flow.instr(n);
-    let q = flow.uses(n);
-    let pc = pc_after(
-        alloc,
-        i,
-        form,
-        flow.addr(n),
-        flow.size(n),
-        &place.names_of(q),
-    )?;
-    let next = after(i, q, *place);
-    let there = go_on(alloc, flow, entry, from, last, pc, &next, log)?;
+    flow.law_of_code();
+    let origin = front(flow, entry);
+    let there = step_from(alloc, flow, &origin, n, form, place, from, log)?;
     Ok(there)
 }

@@ -10,11 +10,13 @@
 //! through one part: it follows the branches of its code from its first node to the next cuts,
 //! which is symbolic execution along each path. At each instruction it states the axiom, puts in
 //! the current variables, names what it writes by a new one, frames it, and joins it to the theorem
-//! of the way there; a line that would state what the one before it does isn't written. A call of a
-//! part is a step by the fact that this part leaves by an exit. A path's last theorem is cited as a
-//! leaf, and a line `loop` closes the definition by its leaves. Behind it each theorem of the part
-//! is forgotten, in order: later parts need only that the definition is closed. A `ProofWriter`
-//! numbers the theorems, a `CitedTheorem` is one of them with its facts and code.
+//! of the way there; a line that would state what the one before it does isn't written. Several
+//! instructions that follow one another and touch few registers are a block: they are joined over
+//! these registers, and then framed to all at once. A call of a part is a step by the fact that
+//! this part leaves by an exit. A path's last theorem is cited as a leaf, and a line `loop` closes
+//! the definition by its leaves. Behind it each theorem of the part is forgotten, in order: later
+//! parts need only that the definition is closed. A `ProofWriter` numbers the theorems, a
+//! `CitedTheorem` is one of them with its facts and code.
 //!
 //! `linked_item(alloc, name, &group)?` makes of linked functions (`linked_group`) an `Item` of
 //! version 3 in the same way: one function after the other, callees first, all over the code of the
@@ -33,6 +35,7 @@
 #![tactic(auto)]
 
 mod all_parts;
+mod blocks;
 mod body_lines;
 mod compose;
 mod cut_lines;
@@ -43,6 +46,7 @@ mod item;
 mod laws;
 mod linked;
 mod one_part;
+mod origin;
 mod proof;
 mod proof_writer;
 mod split;

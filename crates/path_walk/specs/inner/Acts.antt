@@ -1,5 +1,5 @@
 -- The lines of one instruction, and of one exit of a call.
-use Rattle.std.specs.Prelude.{◌≡◌, ◌⊎◌, ℕ, suc, ◌+◌, ◌==◌, not, filter, if◌then◌else◌, true, false, List, [], ◌∷◌, ◌++◌, map, Option, None, Some}
+use Rattle.std.specs.Prelude.{◌≡◌, ◌⊎◌, ℕ, suc, ◌==◌, not, filter, if◌then◌else◌, true, false, List, [], ◌∷◌, ◌++◌, map, Option, None, Some}
 use Rattle.std.specs.List.{Contains, range_with_len}
 use Rattle.rv_words.specs.Bytes.{over}
 use Rattle.rv_words.specs.declared.range.Range.{Range}
@@ -9,7 +9,6 @@ use Rattle.rv_decode.specs.Registers.{destination}
 use Rattle.rvc.specs.Number.{length_of}
 use Rattle.rv_words.specs.declared.comparison.Cmp.TheVariants.{Eq}
 use Rattle.word_terms.specs.Tree.{WordTree, MemTree, Compare, Const, Var, MemVar}
-use Rattle.sep_assert.specs.Tree.{AssertionTree}
 use Rattle.tailrec_lang.specs.declared.group.Exit.{Exit}
 use Rattle.tailrec_lang.specs.declared.group.Exit.TheVariants.{At, Ret}
 use Rattle.tailrec_lang.specs.Tree.{ValuesTree}
@@ -24,7 +23,7 @@ use Rattle.proof_text.specs.LineLimits.{IsRule, IsTriple}
 use Rattle.code_parts.specs.Bodies.{Flow, VariableMap, current, fresh, is_store, names, place_after, start, with_pc}
 use Rattle.path_walk.specs.Further.{is_crossed}
 use Rattle.path_walk.specs.inner.Histories.{exit_place, pc_of}
-use Rattle.path_walk.specs.inner.Writers.{WriterTree, CitedTree, Restated, standing_at, stating, stating_further}
+use Rattle.path_walk.specs.inner.Writers.{WriterTree, CitedTree, OriginTree, Restated, front, standing_at, standing_on, standing_over, stating, stating_further}
 
 -- the terms for the variables from i on
 abbrev pub numbered : {A : Type 0} → ℕ → List A → List (ℕ × A)
@@ -69,10 +68,6 @@ triple_on i form a k code regs ms q v = record {
   post = record { pc = pc_after i form a k (names v q); regs = map (register_with (word_after i a k (names v q))) regs; mems = map (mem_after i q v) ms };
 }
 
--- what holds of these registers and memories at a place: that program counter, and their variables
-abbrev pub standing_over : WordTree → List ℕ → List ℕ → VariableMap → AssertionTree
-standing_over pc regs ms v = record { pc = pc; regs = map (λ r. (r, Var (v.reg r))) regs; mems = map (λ p. MemVar (v.memory p)) ms }
-
 -- .. with new variables for what was written
 abbrev pub named_triple : Instr → Form → ℕ → ℕ → List Range → List ℕ → List ℕ → ℕ → VariableMap → TripleTree
 named_triple i form a k code regs ms q v = record {
@@ -95,45 +90,49 @@ abbrev pub Renamed : Instr → Form → ℕ → ℕ → ℕ → VariableMap → 
 Renamed i form a w q v current old new k =
     Restated current (Weaken current) (triple_over i form a (length_of w) (word_code a w) (own i) (has_memory i) (names v q)) (named_own i form a w q v) old new k
 
--- .. over all registers and over these memories
-abbrev pub named_wide : Flow → Instr → Form → ℕ → ℕ → List ℕ → ℕ → VariableMap → TripleTree
-named_wide f i form a w ms q v = named_triple i form a (length_of w) (word_code a w) f.regs ms q v
+-- .. over these registers and these memories
+abbrev pub named_wide : List ℕ → Instr → Form → ℕ → ℕ → List ℕ → ℕ → VariableMap → TripleTree
+named_wide regs i form a w ms q v = named_triple i form a (length_of w) (word_code a w) regs ms q v
 
 -- .. with the memories in order, by the further rule of the text where its own isn't the first
-abbrev pub Ordered : Flow → Instr → Form → ℕ → ℕ → ℕ → VariableMap → ℕ → WriterTree → WriterTree → ℕ → Type 0
-Ordered f i form a w q v framed old new k =
+abbrev pub Ordered : (regs : List ℕ) (mems : ℕ) → Instr → Form → ℕ → ℕ → ℕ → VariableMap → ℕ → WriterTree → WriterTree → ℕ → Type 0
+Ordered regs mems i form a w q v framed old new k =
     ((is_crossed i q ≡ false) × (new ≡ old) × (k ≡ framed))
-    ⊎ ((is_crossed i q ≡ true) × (new ≡ stating_further framed (named_wide f i form a w (all_mems f.mems) q v) old) × (k ≡ old.next))
+    ⊎ ((is_crossed i q ≡ true) × (new ≡ stating_further framed (named_wide regs i form a w (all_mems mems) q v) old) × (k ≡ old.next))
 
--- that theorem over all registers and memories, its own in front, and then in order
-pub record Widened (f : Flow) (i : Instr) (form : Form) (a w q : ℕ) (v : VariableMap) (named : ℕ) (old new : WriterTree) (k : ℕ) : Type 0 where
+-- that theorem over these registers and all memories, its own in front, and then in order
+pub record Widened (regs : List ℕ) (mems : ℕ) (i : Instr) (form : Form) (a w q : ℕ) (v : VariableMap) (named : ℕ) (old new : WriterTree) (k : ℕ) : Type 0 where
   pub framed : ℕ
   pub mid : WriterTree
-  pub wide : Restated named (Frame named) (named_own i form a w q v) (named_wide f i form a w (mem_first i q f.mems) q v) old mid framed
-  pub order : Ordered f i form a w q v framed mid new k
+  pub wide : Restated named (Frame named) (named_own i form a w q v) (named_wide regs i form a w (mem_first i q mems) q v) old mid framed
+  pub order : Ordered regs mems i form a w q v framed mid new k
 
 -- all of these; theorem k is what they end with
-pub record Acted (f : Flow) (i : Instr) (form : Form) (a w q : ℕ) (v : VariableMap) (old new : WriterTree) (k : ℕ) : Type 0 where
+pub record Acted (regs : List ℕ) (mems : ℕ) (i : Instr) (form : Form) (a w q : ℕ) (v : VariableMap) (old new : WriterTree) (k : ℕ) : Type 0 where
   pub current : ℕ
   pub named : ℕ
   pub second : WriterTree
   pub third : WriterTree
   pub put : Put i form a w q v old second current
   pub renamed : Renamed i form a w q v current second third named
-  pub widened : Widened f i form a w q v named third new k
+  pub widened : Widened regs mems i form a w q v named third new k
 
 -- .. with its facts and its code
 abbrev pub act_standing : Instr → Form → ℕ → ℕ → ℕ → VariableMap → ℕ → CitedTree
 act_standing i form a w q v k = record { number = k; facts = map So (conditions i form (names v q)) ++ new_facts i a (length_of w) q v; code = word_code a w }
 
+-- the registers of an instruction are among these
+abbrev pub HasOwn : List ℕ → Instr → Type 0
+HasOwn regs i = (r : ℕ) → Contains (own i) r → Contains regs r
+
 -- these lines have a text
-pub record IsFineInstruction (f : Flow) (i : Instr) (form : Form) (a w q : ℕ) (v : VariableMap) : Type 0 where
+pub record IsFineInstruction (regs : List ℕ) (mems : ℕ) (i : Instr) (form : Form) (a w q : ℕ) (v : VariableMap) : Type 0 where
   pub rule : (k : ℕ) → IsNumber k → IsRule (Inst k (own_words i v) (own_mems i q v))
   pub first : IsTriple (own_triple i form a w)
   pub current_over : IsTriple (triple_over i form a (length_of w) (word_code a w) (own i) (has_memory i) (names v q))
   pub named : IsTriple (named_own i form a w q v)
-  pub wide : IsTriple (named_wide f i form a w (mem_first i q f.mems) q v)
-  pub in_order : IsTriple (named_wide f i form a w (all_mems f.mems) q v)
+  pub wide : IsTriple (named_wide regs i form a w (mem_first i q mems) q v)
+  pub in_order : IsTriple (named_wide regs i form a w (all_mems mems) q v)
 
 -- ---- one exit of a call
 
@@ -194,26 +193,26 @@ steered_standing pc back t l = record { number = l.next; facts = t.facts ++ So (
 abbrev pub IsAdded : (known : List FactTree) (x : FactTree) (old new : List FactTree) → Type 0
 IsAdded known x old new = (Contains known x × (new ≡ old)) ⊎ ((Contains known x → ⊥) × (new ≡ old ++ x ∷ []))
 
--- a theorem after another, which leads from the definition's entry
-pub record Joined (f : Flow) (entry : ℕ) (st there : CitedTree) (to : WordTree) (u : VariableMap) (old new : WriterTree) (t : CitedTree) : Type 0 where
+-- a theorem after another, which leads from the way's origin
+pub record Joined (f : Flow) (o : OriginTree) (st there : CitedTree) (to : WordTree) (u : VariableMap) (old new : WriterTree) (t : CitedTree) : Type 0 where
   pub more : List FactTree
   pub are : AreMissing st.facts there.facts more
   pub facts : t.facts ≡ st.facts ++ more
   pub bytes : range_bytes t.code ≡ over (range_bytes st.code) (range_bytes there.code)
   pub number : t.number ≡ old.next
-  pub log : new ≡ stating (Compose st.number there.number) (record { facts = t.facts; pre = standing_at f (Const entry) (start f); code = t.code; post = standing_at f to u }) old
+  pub log : new ≡ stating (Compose st.number there.number) (record { facts = t.facts; pre = standing_on f o (Const o.entry) o.place; code = t.code; post = standing_on f o to u }) old
 
--- at the front of the definition it stands by itself
-abbrev pub GoesOn : (f : Flow) (entry : ℕ) → Option CitedTree → CitedTree → WordTree → VariableMap → WriterTree → WriterTree → CitedTree → Type 0
-GoesOn f entry None there to u old new t = (new ≡ old) × (t ≡ there)
-GoesOn f entry (Some st) there to u old new t = Joined f entry st there to u old new t
+-- at the origin it stands by itself
+abbrev pub GoesOn : (f : Flow) (o : OriginTree) → Option CitedTree → CitedTree → WordTree → VariableMap → WriterTree → WriterTree → CitedTree → Type 0
+GoesOn f o None there to u old new t = (new ≡ old) × (t ≡ there)
+GoesOn f o (Some st) there to u old new t = Joined f o st there to u old new t
 
 -- the lines of an exit of a definition that is entered at that address, joined to the way to there
 pub record LeftBy (f : Flow) (entry : ℕ) (ranges : List Range) (called d k : ℕ) (x : Exit) (v : VariableMap) (from : Option CitedTree) (old new : WriterTree) (t : CitedTree) : Type 0 where
   pub number : ℕ
   pub mid : WriterTree
   pub exited : Exited f ranges called d k x v old mid number
-  pub on : GoesOn f entry from (exit_standing f ranges d k x v number) (pc_of x v.words) (exit_place f x v.words v.mems) mid new t
+  pub on : GoesOn f (front f entry) from (exit_standing f ranges d k x v number) (pc_of x v.words) (exit_place f x v.words v.mems) mid new t
 
 -- ---- a call of a function that returns
 

@@ -23,6 +23,9 @@ use Rattle.verdicts.specs.Instance.{AreInstancesBy, History, after_line, after_l
 use Rattle.code_parts.specs.declared.part.Part.{Part}
 use Rattle.code_parts.specs.declared.callee.Callee.{Callee}
 use Rattle.code_parts.specs.Bodies.{Flow, VariableMap, part_def, start}
+use Rattle.code_parts.specs.VariableMaps.{place_of}
+use Rattle.tailrec_lang.specs.Registers.{AreRegistersFrom}
+use Rattle.path_walk.specs.declared.origin.Origin.{Origin}
 use Rattle.path_walk.specs.Closed.{AreClosed}
 use Rattle.verdicts.specs.Further.{further_of}
 use Rattle.path_walk.specs.Further.{IsVersionFor}
@@ -102,6 +105,34 @@ citing k l = record { version = l.version; lines = l.lines; next = l.next; cited
 abbrev pub standing_at : Flow → WordTree → VariableMap → AssertionTree
 standing_at f pc v = record { pc = pc; regs = map (λ r. (r, Var (v.reg r))) f.regs; mems = map (λ q. MemVar (v.memory q)) (range_with_len 0 f.mems) }
 
+-- what holds of these registers and memories at a place: that program counter, and their variables
+abbrev pub standing_over : WordTree → List ℕ → List ℕ → VariableMap → AssertionTree
+standing_over pc regs ms v = record { pc = pc; regs = map (λ r. (r, Var (v.reg r))) regs; mems = map (λ p. MemVar (v.memory p)) ms }
+
+-- where a way begins: the registers that its theorems are over, the program counter, and the variables there
+pub record OriginTree : Type 0 where
+  pub regs : List ℕ
+  pub entry : ℕ
+  pub place : VariableMap
+
+abbrev pub origin_of : Origin → OriginTree
+origin_of o = record { regs = o.regs.now; entry = o.entry; place = place_of o.place }
+
+-- the front of a definition, over all registers
+abbrev pub front : Flow → ℕ → OriginTree
+front f entry = record { regs = f.regs; entry = entry; place = start f }
+
+-- what holds at a place of a way: of its registers, and of all memories
+abbrev pub standing_on : Flow → OriginTree → WordTree → VariableMap → AssertionTree
+standing_on f o pc v = standing_over pc o.regs (range_with_len 0 f.mems) v
+
+-- its registers rise, its program counter is an address, and it has few variables
+pub record IsOrigin (o : OriginTree) : Type 0 where
+  pub registers : AreRegistersFrom 1 o.regs
+  pub entry : o.entry < 2 ^ 64
+  pub words : o.place.words < 2 ^ 16
+  pub mems : o.place.mems < 2 ^ 16
+
 -- ---- the group and the lines before
 
 -- a version of texts, a group for the graph, with this code, and the lines of the definitions before. It has each part and each function whose
@@ -138,16 +169,16 @@ pub record Grown (f : Flow) (ranges : List Range) (s : Context f ranges) (old ne
 
 -- ---- places
 
--- the theorem leads from the definition's entry to this place, and its facts are of the way there
-pub record StandsAs (f : Flow) (entry : ℕ) (ranges : List Range) (h : History) (pc : WordTree) (v : VariableMap) (path : List FactTree) (t : CitedTree) : Type 0 where
-  pub held : h.theorem t.number ≡ Some (record { facts = t.facts; pre = standing_at f (Const entry) (start f); code = t.code; post = standing_at f pc v })
+-- the theorem leads from the way's origin to this place, and its facts are of the way there
+pub record StandsAs (f : Flow) (o : OriginTree) (ranges : List Range) (h : History) (pc : WordTree) (v : VariableMap) (path : List FactTree) (t : CitedTree) : Type 0 where
+  pub held : h.theorem t.number ≡ Some (record { facts = t.facts; pre = standing_on f o (Const o.entry) o.place; code = t.code; post = standing_on f o pc v })
   pub facts : AreAmong t.facts path
   pub code : IsWithin (range_bytes t.code) (range_bytes ranges)
 
--- such a theorem, or none at the front of the definition
-abbrev pub FromAs : (f : Flow) (entry : ℕ) (ranges : List Range) → History → WordTree → VariableMap → List FactTree → Option CitedTree → Type 0
-FromAs f entry ranges h pc v path None = (pc ≡ Const entry) × (v ≡ start f) × (path ≡ [])
-FromAs f entry ranges h pc v path (Some t) = StandsAs f entry ranges h pc v path t
+-- such a theorem, or none at the origin
+abbrev pub FromAs : (f : Flow) (o : OriginTree) (ranges : List Range) → History → WordTree → VariableMap → List FactTree → Option CitedTree → Type 0
+FromAs f o ranges h pc v path None = (pc ≡ Const o.entry) × (v ≡ o.place) × (path ≡ [])
+FromAs f o ranges h pc v path (Some t) = StandsAs f o ranges h pc v path t
 
 -- its code, if there is one, is within that code
 abbrev pub IsOver : List Range → Option CitedTree → Type 0
@@ -155,22 +186,22 @@ IsOver ranges None = Unit {0}
 IsOver ranges (Some t) = IsWithin (range_bytes t.code) (range_bytes ranges)
 
 -- lines that were added lead to this place
-pub record Stood (f : Flow) (entry : ℕ) (ranges : List Range) (s : Context f ranges) (old new : WriterTree) (pc : WordTree) (v : VariableMap) (path : List FactTree) (t : CitedTree) : Type 0 where
+pub record Stood (f : Flow) (o : OriginTree) (ranges : List Range) (s : Context f ranges) (old new : WriterTree) (pc : WordTree) (v : VariableMap) (path : List FactTree) (t : CitedTree) : Type 0 where
   pub grown : Grown f ranges s old new
   pub cited : new.cited ≡ old.cited
-  pub stands : StandsAs f entry ranges (past f ranges s new) pc v path t
+  pub stands : StandsAs f o ranges (past f ranges s new) pc v path t
 
 -- they lead from one place to another, where the way has these facts more
-pub record Steps (f : Flow) (entry : ℕ) (ranges : List Range) (old new : WriterTree) (pc : WordTree) (v : VariableMap) (from : Option CitedTree) (to : WordTree) (u : VariableMap) (more : List FactTree) (t : CitedTree) : Type 0 where
+pub record Steps (f : Flow) (o : OriginTree) (ranges : List Range) (old new : WriterTree) (pc : WordTree) (v : VariableMap) (from : Option CitedTree) (to : WordTree) (u : VariableMap) (more : List FactTree) (t : CitedTree) : Type 0 where
   pub version : new.version ≡ old.version
-  pub each : (s : Context f ranges) (path : List FactTree) → IsReady f ranges s old → FromAs f entry ranges (past f ranges s old) pc v path from
-      → Stood f entry ranges s old new to u (path ++ more) t
+  pub each : (s : Context f ranges) (path : List FactTree) → IsReady f ranges s old → FromAs f o ranges (past f ranges s old) pc v path from
+      → Stood f o ranges s old new to u (path ++ more) t
 
 -- .. by a call of definition d, where that is closed and below the bound
 pub record StepsBy (f : Flow) (entry : ℕ) (ranges : List Range) (d : ℕ) (old new : WriterTree) (pc : WordTree) (v : VariableMap) (from : Option CitedTree) (to : WordTree) (u : VariableMap) (more : List FactTree) (t : CitedTree) : Type 0 where
   pub version : new.version ≡ old.version
-  pub each : (s : Context f ranges) (path : List FactTree) → IsReady f ranges s old → (past f ranges s old).closed d ≡ true → d < s.bound → FromAs f entry ranges (past f ranges s old) pc v path from
-      → Stood f entry ranges s old new to u (path ++ more) t
+  pub each : (s : Context f ranges) (path : List FactTree) → IsReady f ranges s old → (past f ranges s old).closed d ≡ true → d < s.bound → FromAs f (front f entry) ranges (past f ranges s old) pc v path from
+      → Stood f (front f entry) ranges s old new to u (path ++ more) t
 
 -- ---- leaves
 
@@ -184,6 +215,6 @@ pub record Led (f : Flow) (p : Part) (ranges : List Range) (s : Context f ranges
 -- .. for those of a body at a place
 pub record Leads (f : Flow) (p : Part) (ranges : List Range) (old new : WriterTree) (pc : WordTree) (v : VariableMap) (from : Option CitedTree) (body : BodyTree) : Type 0 where
   pub version : new.version ≡ old.version
-  pub each : (s : Context f ranges) (path : List FactTree) → IsReady f ranges s old → FromAs f (part_def f p).entry ranges (past f ranges s old) pc v path from
+  pub each : (s : Context f ranges) (path : List FactTree) → IsReady f ranges s old → FromAs f (front f (part_def f p).entry) ranges (past f ranges s old) pc v path from
       → AreClosed (past f ranges s old) body → CallsBelow s.bound body
       → Led f p ranges s old new (body_leaves (group_in f ranges s) (part_def f p) body v.words v.mems path)

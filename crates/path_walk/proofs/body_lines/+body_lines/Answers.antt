@@ -1,4 +1,4 @@
-use Rattle.std.proofs.Common.{◌≡◌, Bool, Option, true, false, not, refl, sym, ap, ◌∙◌, subst, arith, option_copied, option_map}
+use Rattle.std.proofs.Common.{◌≡◌, ℕ, Bool, Option, true, false, not, refl, sym, ap, ◌∙◌, subst, arith, option_copied, option_map}
 use Rattle.std.proofs.lemmas.Result.{on_ok_weaker}
 use Rattle.rv_decode.specs.declared.instruction.Instr.{Instr}
 use Rattle.word_terms.specs.Tree.{Const}
@@ -10,11 +10,12 @@ use Rattle.path_walk.specs.Further.{IsVersionFor}
 use Rattle.code_parts.specs.Bodies.{Flow, VariableMap, body_at, place_after}
 use Rattle.code_parts.specs.Graph.{has_edge, is_jump_through}
 use Rattle.code_parts.specs.Kept.{flow_in}
-use Rattle.path_walk.specs.inner.Writers.{Leads, WriterTree, CitedTree, writer_tree, cited_tree}
+use Rattle.path_walk.specs.inner.Blocks.{Reaches}
+use Rattle.path_walk.specs.inner.Writers.{Leads, WriterTree, CitedTree, front, writer_tree, cited_tree}
 use Rattle.code_parts.specs.VariableMaps.{place_of}
-use Rattle.code_parts.proofs.BuiltBodies.{straight_edge}
+use Rattle.path_walk.proofs.BlockLemmas.{no-taken}
 use Rattle.path_walk.proofs.EnteredLines.{called_made, entered-version, unreturned_made}
-use Rattle.path_walk.proofs.LeafCitations.{branch_leads, return_leads, steps_front, straight_leads}
+use Rattle.path_walk.proofs.LeafCitations.{branch_leads, return_leads, run_leads, steps_front}
 use Rattle.path_walk.proofs.PartWalks.{few_more, next_is}
 use Rattle.path_walk.proofs.body_lines.+body_lines.Goals as goal
 
@@ -44,14 +45,22 @@ acting_lines-lines_to-requires-in-Branch t c =
       (c.requires.part, (next_is f c.args.p c.args.room c.args.n c.to-to-in-Branch.result Next c.requires.near (λ e. omega (arith, e, c.requires.some)) edge c.to-to-in-Branch.ensures.is, (omega (arith, c.requires.words, c.requires.some), (omega (arith, c.requires.mems, c.requires.some), (c.in_ok-t-in-Branch-2.ensures.code, subst (λ (k : Known). IsVersionFor f k) (sym (c.in_ok-t-in-Branch-2.ensures.steps.version ∙ c.in_ok-lines_to-in-Branch.ensures.version ∙ c.in_ok-t-in-Branch.ensures.steps.version)) c.requires.version))))),
     )
 
+pub acting_lines-straight_lines-requires-clause-straight : goal.acting_lines-straight_lines-requires-clause-straight
+acting_lines-straight_lines-requires-clause-straight t c = record {
+  node = c.requires.near.node;
+  uncalled = c.requires.uncalled;
+  branch = sym (ap (λ (i : Instr). has_edge i Taken) c.instr-i.ensures.is) ∙ no-taken c.instr-i.result c.in_default.not-Branch;
+  jump = sym (ap is_jump_through c.instr-i.ensures.is) ∙ sym c.is_jump_through.ensures ∙ c.if-is_jump_through.false;
+}
+
 pub acting_lines-lines_to-requires-in_default : goal.acting_lines-lines_to-requires-in_default
 acting_lines-lines_to-requires-in_default t c =
-    let f : Flow = flow_in c.args.flow.now in
-    let edge : has_edge (f.instr c.args.n) Next ≡ true =
-    sym (ap (λ (i : Instr). has_edge i Next) c.instr-i.ensures.is) ∙ straight_edge c.instr-i.result c.in_default.not-Branch (sym c.is_jump_through.ensures ∙ c.if-is_jump_through.false) in
-    let few = few_more c.instr-i.result c.uses-q.result (place_of c.args.place.now) (place_of c.after-next.result) c.after-next.ensures.is in (
-      omega (arith, c.decreases, c.requires.some),
-      (c.requires.part, (next_is f c.args.p c.args.room c.args.n c.to-to-in_default.result Next c.requires.near (λ e. omega (arith, e, c.requires.some)) edge c.to-to-in_default.ensures.is, (omega (arith, c.requires.words, c.requires.some, few.0), (omega (arith, c.requires.mems, c.requires.some, few.1), (c.in_ok-t-in_default.ensures.code, subst (λ (k : Known). IsVersionFor f k) (sym (c.in_ok-t-in_default.ensures.steps.version)) c.requires.version))))),
+    let reaches = c.in_ok-end-in_default.ensures.reaches in
+    let fewer = reaches.runs.fewer in
+    let words = reaches.runs.words in
+    let mems = reaches.runs.mems in (
+      omega (arith, c.decreases, fewer),
+      (c.requires.part, (reaches.runs.next c.args.p c.requires.near, (omega (arith, c.requires.words, words), (omega (arith, c.requires.mems, mems), (c.in_ok-end-in_default.ensures.code, subst (λ (k : Known). IsVersionFor (flow_in c.args.flow.now) k) (sym reaches.steps.version) c.requires.version))))),
     )
 
 pub acting_lines-returns-in_ok-t-in-Branch-2 : goal.acting_lines-returns-in_ok-t-in-Branch-2
@@ -65,15 +74,15 @@ acting_lines-returns-in_ok-t-in-Branch-2 t c =
     (steps_front f c.args.p c.args.flow.now.code _ _ _ _ _ _ _ _ _ _ c.entry_of-entry.ensures c.in_ok-t-in-Branch.ensures.steps) c.in_ok-lines_to-in-Branch.ensures
     (steps_front f c.args.p c.args.flow.now.code _ _ _ _ _ _ _ _ _ _ c.entry_of-entry.ensures c.in_ok-t-in-Branch-2.ensures.steps) two) c.lines_to-in-Branch.ensures
 
-pub acting_lines-returns-in_ok-t-in_default : goal.acting_lines-returns-in_ok-t-in_default
-acting_lines-returns-in_ok-t-in_default t c =
+pub acting_lines-returns-in_ok-end-in_default : goal.acting_lines-returns-in_ok-end-in_default
+acting_lines-returns-in_ok-end-in_default t c =
     let f : Flow = flow_in c.args.flow.now in
-    let v : VariableMap = place_of c.args.place.now in
     let from : Option CitedTree = option_map cited_tree (option_copied c.args.from) in
-    on_ok_weaker c.lines_to-in_default.result (λ rest. straight_leads f c.args.p c.args.flow.now.code c.args.n c.args.room v (place_of c.after-next.result) c.instr-i.result c.to-to-in_default.result from
-    (cited_tree c.in_ok-t-in_default.t) (writer_tree c.args.log.now) (writer_tree c.step-in_default.new.log) (writer_tree c.lines_to-in_default.new.log) c.requires.near.node c.requires.uncalled c.instr-i.ensures.is c.in_default.not-Branch
-    (sym c.is_jump_through.ensures ∙ c.if-is_jump_through.false) (λ e. omega (arith, e, c.requires.some)) (c.after-next.ensures.is ∙ (λ j. place_after c.instr-i.result (c.uses-q.ensures.is j) v)) c.to-to-in_default.ensures.is
-    (steps_front f c.args.p c.args.flow.now.code _ _ _ _ _ _ _ _ _ _ c.entry_of-entry.ensures c.in_ok-t-in_default.ensures.steps) rest) c.lines_to-in_default.ensures
+    let end = c.in_ok-end-in_default.end in
+    on_ok_weaker c.lines_to-in_default.result (λ rest. run_leads f c.args.p c.args.flow.now.code c.args.n c.args.room (place_of c.args.place.now) end.node (place_of end.place) end.room from
+    (cited_tree end.theorem) (writer_tree c.args.log.now) (writer_tree c.straight_lines.new.log) (writer_tree c.lines_to-in_default.new.log)
+    (subst (λ (e : ℕ). Reaches f (front f e) c.args.flow.now.code (writer_tree c.args.log.now) (writer_tree c.straight_lines.new.log) c.args.n (place_of c.args.place.now) c.args.room from end.node (place_of end.place) end.room (cited_tree end.theorem))
+    c.entry_of-entry.ensures c.in_ok-end-in_default.ensures.reaches) rest) c.lines_to-in_default.ensures
 
 pub lines_to-lines_from-requires : goal.lines_to-lines_from-requires
 lines_to-lines_from-requires t c = (

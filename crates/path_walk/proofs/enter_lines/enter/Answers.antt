@@ -5,7 +5,7 @@ use Rattle.group_text.specs.declared.version.Version.{Version as Known}
 use Rattle.group_text.specs.Version.{version_of}
 use Rattle.code_parts.specs.Kept.{flow_in}
 use Rattle.code_parts.specs.VariableMaps.{place_of}
-use Rattle.path_walk.specs.inner.Writers.{cited_tree, writer_tree}
+use Rattle.path_walk.specs.inner.Writers.{cited_tree, front, writer_tree}
 use Rattle.path_walk.proofs.EnteredLines.{entered_made}
 use Rattle.path_walk.proofs.JoinedLines.{goes-version}
 use Rattle.path_walk.proofs.WriterLemmas.{restated-version}
@@ -14,7 +14,7 @@ use Rattle.path_walk.proofs.enter_lines.enter.Goals as goal
 pub steer-requires-clause-further : goal.steer-requires-clause-further
 steer-requires-clause-further c =
     subst (λ (v : Known). is_some (version_of v).further ≡ true)
-    (sym (goes-version (flow_in c.args.flow.now) c.args.entry (option_map cited_tree (option_copied c.args.from)) (cited_tree c.in_ok-last.last) (cited_tree c.in_ok-on.on) (Var c.args.place.now.words) (place_of c.place_at-next.result)
+    (sym (goes-version (flow_in c.args.flow.now) (front (flow_in c.args.flow.now) c.args.entry) (option_map cited_tree (option_copied c.args.from)) (cited_tree c.in_ok-last.last) (cited_tree c.in_ok-on.on) (Var c.args.place.now.words) (place_of c.place_at-next.result)
     (writer_tree c.leave_by.new.log) (writer_tree c.go_on.new.log) c.in_ok-on.ensures.on ∙ restated-version _ _ _ _ _ _ _ c.in_ok-last.ensures.exited)) c.requires.further
 
 pub returns-clause-entered : goal.returns-clause-entered

@@ -31,13 +31,13 @@ instruction_lines-requires-clause-fine c =
     let f : Flow = flow_in c.args.flow.now in
     let v : VariableMap = place_of c.args.place.now in
     let at = c.word-word.ensures.stands in
-    let fine : IsFineInstruction f (f.instr c.args.n) c.args.form (f.addr c.args.n) (f.word c.args.n) (f.uses c.args.n) v =
-    act-fine (f.instr c.args.n) c.args.form (f.addr c.args.n) (f.word c.args.n) at.address at.room f c.law_of_code.ensures.registers v 32768
+    let fine : IsFineInstruction c.args.regs.now f.mems (f.instr c.args.n) c.args.form (f.addr c.args.n) (f.word c.args.n) (f.uses c.args.n) v =
+    act-fine (f.instr c.args.n) c.args.form (f.addr c.args.n) (f.word c.args.n) at.address at.room f c.args.regs.now c.requires.registers v 32768
     (low_place c.args.place.now 32768 f.mems c.law_of_memories.ensures.few c.law_of_memories.ensures.second (omega arith) (omega (arith, c.requires.words)) (omega (arith, c.requires.mems))) (omega arith) (f.uses c.args.n) at.memory in
-    subst (λ (i : Instr). IsFineInstruction f i c.args.form c.addr-addr.result c.word-word.result c.uses-q.result v) (sym c.instr-i.ensures.is)
-    (subst (λ (a : ℕ). IsFineInstruction f (f.instr c.args.n) c.args.form a c.word-word.result c.uses-q.result v) (sym c.addr-addr.ensures)
-    (subst (λ (w : ℕ). IsFineInstruction f (f.instr c.args.n) c.args.form (f.addr c.args.n) w c.uses-q.result v) (sym c.word-word.ensures.is)
-    (subst (λ (q : ℕ). IsFineInstruction f (f.instr c.args.n) c.args.form (f.addr c.args.n) (f.word c.args.n) q v) (sym c.uses-q.ensures.is) fine)))
+    subst (λ (i : Instr). IsFineInstruction c.args.regs.now f.mems i c.args.form c.addr-addr.result c.word-word.result c.uses-q.result v) (sym c.instr-i.ensures.is)
+    (subst (λ (a : ℕ). IsFineInstruction c.args.regs.now f.mems (f.instr c.args.n) c.args.form a c.word-word.result c.uses-q.result v) (sym c.addr-addr.ensures)
+    (subst (λ (w : ℕ). IsFineInstruction c.args.regs.now f.mems (f.instr c.args.n) c.args.form (f.addr c.args.n) w c.uses-q.result v) (sym c.word-word.ensures.is)
+    (subst (λ (q : ℕ). IsFineInstruction c.args.regs.now f.mems (f.instr c.args.n) c.args.form (f.addr c.args.n) (f.word c.args.n) q v) (sym c.uses-q.ensures.is) fine)))
 
 pub new-requires : goal.new-requires
 new-requires c =
@@ -60,6 +60,6 @@ returns c =
       c.new.ensures
           ∙ (λ j. record { number = sym number j; facts = c.in_ok-known.ensures j; code = c.in_ok-code.ensures j })
           ∙ (λ j. act_standing (c.instr-i.ensures.is j) c.args.form (c.addr-addr.ensures j) (c.word-word.ensures.is j) (c.uses-q.ensures.is j) v c.new.result.number),
-      subst (λ (k : ℕ). Acted f (f.instr c.args.n) c.args.form (f.addr c.args.n) (f.word c.args.n) (f.uses c.args.n) v (writer_tree c.args.log.now) (writer_tree c.instruction_lines.new.log) k) (sym number)
-          (acted_of f _ _ c.args.form _ _ _ _ _ _ v _ _ _ c.instr-i.ensures.is c.addr-addr.ensures c.word-word.ensures.is c.uses-q.ensures.is c.in_ok-number.ensures.acted),
+      subst (λ (k : ℕ). Acted c.args.regs.now f.mems (f.instr c.args.n) c.args.form (f.addr c.args.n) (f.word c.args.n) (f.uses c.args.n) v (writer_tree c.args.log.now) (writer_tree c.instruction_lines.new.log) k) (sym number)
+          (acted_of c.args.regs.now f.mems _ _ c.args.form _ _ _ _ _ _ v _ _ _ c.instr-i.ensures.is c.addr-addr.ensures c.word-word.ensures.is c.uses-q.ensures.is c.in_ok-number.ensures.acted),
     )

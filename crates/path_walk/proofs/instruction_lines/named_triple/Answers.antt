@@ -1,6 +1,6 @@
 use Rattle.std.proofs.Common.{◌∙◌}
 use Rattle.instr_axioms.specs.Terms.{pc_after}
-use Rattle.path_walk.specs.inner.Acts.{standing_over}
+use Rattle.path_walk.specs.inner.Writers.{standing_over}
 use Rattle.path_walk.proofs.instruction_lines.named_triple.Goals as goal
 
 pub returns : goal.returns

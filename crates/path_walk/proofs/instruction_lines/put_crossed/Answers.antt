@@ -16,7 +16,7 @@ pub restate-requires-clause-stated : goal.restate-requires-clause-stated
 restate-requires-clause-stated c =
     let f : Flow = flow_in c.args.flow.now in
     let front = (crossed-second c.args.at.instr c.args.at.memory f.mems c.requires.low c.requires.two c.requires.crossed).1 in
-    let same = c.in_ok-crossed.ensures ∙ (λ j. named_wide f c.args.at.instr c.args.at.form c.args.at.addr c.args.at.word (sym front j) c.args.at.memory (place_of c.args.place.now)) in
+    let same = c.in_ok-crossed.ensures ∙ (λ j. named_wide c.args.regs.now c.args.at.instr c.args.at.form c.args.at.addr c.args.at.word (sym front j) c.args.at.memory (place_of c.args.place.now)) in
     subst IsTriple (sym same) c.requires.wide
 
 pub state_further-requires-clause-further : goal.state_further-requires-clause-further
@@ -25,12 +25,12 @@ state_further-requires-clause-further c =
 
 pub state_further-requires-clause-stated : goal.state_further-requires-clause-stated
 state_further-requires-clause-stated c =
-    let wide = c.in_ok-wide.ensures ∙ (λ j. named_wide (flow_in c.args.flow.now) c.args.at.instr c.args.at.form c.args.at.addr c.args.at.word (c.all_mems.ensures.are j) c.args.at.memory (place_of c.args.place.now)) in
+    let wide = c.in_ok-wide.ensures ∙ (λ j. named_wide c.args.regs.now c.args.at.instr c.args.at.form c.args.at.addr c.args.at.word (c.all_mems.ensures.are j) c.args.at.memory (place_of c.args.place.now)) in
     subst IsTriple (sym wide) c.requires.in_order
 
 pub returns-clause-widened : goal.returns-clause-widened
 returns-clause-widened c =
     let f : Flow = flow_in c.args.flow.now in
-    let wide = c.in_ok-wide.ensures ∙ (λ j. named_wide f c.args.at.instr c.args.at.form c.args.at.addr c.args.at.word (c.all_mems.ensures.are j) c.args.at.memory (place_of c.args.place.now)) in
-    widened-crossed f c.args.at.instr c.args.at.form c.args.at.addr c.args.at.word c.args.at.memory (place_of c.args.place.now) c.requires.low c.args.named _ c.in_ok-known.ensures c.requires.crossed c.requires.two _ _ c.in_ok-crossed.ensures wide _ _ _ _ _
+    let wide = c.in_ok-wide.ensures ∙ (λ j. named_wide c.args.regs.now c.args.at.instr c.args.at.form c.args.at.addr c.args.at.word (c.all_mems.ensures.are j) c.args.at.memory (place_of c.args.place.now)) in
+    widened-crossed c.args.regs.now f.mems c.args.at.instr c.args.at.form c.args.at.addr c.args.at.word c.args.at.memory (place_of c.args.place.now) c.requires.low c.args.named _ c.in_ok-known.ensures c.requires.crossed c.requires.two _ _ c.in_ok-crossed.ensures wide _ _ _ _ _
     c.in_ok-framed.ensures.restated c.in_ok-number.ensures.log c.in_ok-number.ensures.number
