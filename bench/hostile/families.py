@@ -238,7 +238,7 @@ def code_of_cited(n):
     return words([FENCE]), text(LEAVES[0], *tree(n, "leave 0 ;"), first, *[states("extend 0")] * n, f"loop 0 {cited}", code=words([FENCE] * n).hex()), CHECK
 
 
-@family(10_000)
+@family(40_000)
 def code_of_extensions(n):
     """n lines that extend the code of a theorem, of 4n bytes, to the group's own, which has four more."""
     first = states(f"axiom {ENTRY} {FENCE:#x} next", covered=f"({ENTRY} {words([FENCE]).hex()})")
@@ -303,7 +303,7 @@ def extended_facts(n):
     return TURN, short_text([f"{i:#x}" for i in range(n)], lines), CHECK
 
 
-@family(1_000)
+@family(16_000)
 def extended_memories(n):
     """A theorem of n memories, and n lines that state it again."""
     return TURN, short_text(["m0"], [f"frame 0 ;{' t1' * n}", *["extend 1 code all"] * n]), CHECK

@@ -1,6 +1,8 @@
 """How long a program takes, and how much memory."""
 import os
+import re
 import resource
+import subprocess
 import sys
 
 from programs import numbers, program_of
@@ -10,6 +12,7 @@ MIB = 1 << 20
 
 # GNU time. A process is born with the peak of the one that starts it, and this one is small.
 TIMER = "/usr/bin/time"
+COUNTER = ["valgrind", "--tool=cachegrind", "--cache-sim=no", "--cachegrind-out-file=/dev/null"]
 
 
 def given_words(usage, elf):
@@ -39,6 +42,12 @@ def measure(program, arguments):
     with os.fdopen(peak) as file:
         kilobytes = int(file.read().split()[-1]) if is_timed else usage.ru_maxrss
     return lines, usage.ru_utime + usage.ru_stime, kilobytes * 1024
+
+
+def executed(program, arguments):
+    """Runs the program under Valgrind, and gives its output and how many instructions it executes."""
+    told = subprocess.run([*COUNTER, program, *arguments], capture_output=True, text=True, check=False)
+    return told.stdout, int(re.search(r"I\s+refs:\s+([\d,]+)", told.stderr)[1].replace(",", ""))
 
 
 def measure_work(program, arguments, seconds, memory, path):

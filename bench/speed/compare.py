@@ -13,7 +13,6 @@ run under Valgrind, which takes a hundred times as long and needs no quiet machi
 where two programs say otherwise.
 """
 import os
-import re
 import subprocess
 import sys
 import tempfile
@@ -25,10 +24,9 @@ from decompile import NAME, SHAPES
 from elf_files import BASE, write_elf
 from instructions import words
 from mc.functions import Functions
-from measuring import MIB, measure
+from measuring import MIB, executed, measure
 
 TIMES, ENOUGH = 5, 10
-COUNTER = ["valgrind", "--tool=cachegrind", "--cache-sim=no", "--cachegrind-out-file=/dev/null"]
 
 
 class Bench:
@@ -70,9 +68,8 @@ class Bench:
         """Billions of instructions, and instructions a byte."""
         length, cells, lines = os.path.getsize(self.text), [], []
         for program in self.programs:
-            told = subprocess.run([*COUNTER, program, "check", elf, self.text], capture_output=True, text=True, check=False)
-            count = int(re.search(r"I\s+refs:\s+([\d,]+)", told.stderr)[1].replace(",", ""))
-            lines.append(told.stdout)
+            told, count = executed(program, ["check", elf, self.text])
+            lines.append(told)
             cells.append(f"{count / 1e9:9.3f} {count / length:8.1f} {'':7}")
         self.judge(case, lines)
         print(f"{case:24} {length / 1e6:8.2f} {' '.join(cells)}", flush=True)
